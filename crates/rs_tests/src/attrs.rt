@@ -5,15 +5,10 @@ mod reading;
 mod room;
 mod routes;
 
-use crate::common::{ROUTE, attrs, octets, put};
+use crate::common::{ROUTE, attrs as attrs_of, octets, put};
 use rs_attrs::{AttributeRef, Attrs, Parsed};
 use std::alloc::Global;
 use std::process::Abort;
-
-/// The attributes of a field of a four-octet peer.
-fn attrs_of(rt: &impl Abort, alloc: Global, field: &[u8]) -> Attrs {
-    attrs(alloc, field).expect(rt, "attributes")
-}
 
 /// The route with these attributes behind its own.
 fn route_with(rt: &impl Abort, alloc: Global, more: &[u8]) -> Attrs {

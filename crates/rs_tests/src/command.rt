@@ -3,7 +3,7 @@
 mod checking;
 mod configuration;
 
-use crate::common::is;
+use crate::common::{equals, is, push};
 use rs_command::serve::LogLevel;
 use rs_command::{Asked, Status, read_command, replay, serve};
 use std::alloc::Global;
@@ -115,7 +115,7 @@ impl Eprint for Streams {
 /// Puts a text behind others.
 fn put_text(rt: &impl Abort, alloc: Global, texts: &mut Vec<String>, text: &str) {
     let text = String::from_str(alloc, text).expect(rt, "a text");
-    texts.push(text).expect(rt, "a text");
+    push(rt, texts, text);
 }
 
 /// The words of a command line, which stand one space apart.
@@ -142,7 +142,7 @@ fn line_of(rt: &impl Abort, alloc: Global, words: &[String]) -> String {
 /// This was kept.
 fn is_kept(rt: &impl Abort, kept: &RefCell<String>, want: &str) {
     let text = kept.try_borrow().expect(rt, "a text");
-    assert_eq!(rt; text.as_str(), want);
+    equals(rt, text.as_str(), want);
 }
 
 /// This was printed on standard output and on standard error.
@@ -201,7 +201,7 @@ fn options_to_serve(rt: &impl Abort, alloc: Global, line: &str) -> serve::Option
 /// The configuration is in these files.
 fn are_configs(rt: &impl Abort, alloc: Global, configs: &[String], want: &str) {
     let line = line_of(rt, alloc, configs);
-    assert_eq!(rt; line.as_str(), want);
+    equals(rt, line.as_str(), want);
 }
 
 /// A command line to play, and the files of the configuration, how many workers there are, whether progress is
@@ -482,7 +482,7 @@ fn versions_are_printed(rt: HostRuntime) {
 
 /// A status has this number.
 fn has_number(rt: &impl Abort, status: Status, number: u8) {
-    assert_eq!(rt; status.number(), number);
+    equals(rt, status.number(), number);
 }
 
 #[test]

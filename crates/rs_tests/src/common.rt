@@ -2,18 +2,53 @@
 
 use rs_attrs::{Attrs, Mode, read};
 use rs_octets::Prefix;
-use std::alloc::{AllocError, Global};
+use std::alloc::Global;
 use std::fmt::Debug;
 use std::process::Abort;
+use std::sync::Arc;
 
 /// ORIGIN IGP, AS_PATH 64496, NEXT_HOP 192.0.2.11, as a four-octet peer spells them.
 pub(crate) const ROUTE: [u8; 20] = [
     0x40, 1, 1, 0, 0x40, 2, 6, 2, 1, 0, 0, 0xfb, 0xf0, 0x40, 3, 4, 192, 0, 2, 11,
 ];
 
+/// A value is the one that is wanted.
+pub(crate) fn equals<T: Debug + PartialEq + Drop>(rt: &impl Abort, found: T, want: T) {
+    assert_eq!(rt; found, want);
+}
+
 /// A value is the one that is wanted of this.
 pub(crate) fn is<T: Debug + PartialEq + Drop>(rt: &impl Abort, found: T, want: T, of: &str) {
     assert_eq!(rt; found, want, "{of}");
+}
+
+/// The same of what is no text: a number, a pattern, or a word and a number.
+pub(crate) fn is_of<T: Debug + PartialEq + Drop, W: Debug>(
+    rt: &impl Abort,
+    found: T,
+    want: T,
+    of: &W,
+) {
+    assert_eq!(rt; found, want, "{of:?}");
+}
+
+/// This holds, which a test says of something.
+pub(crate) fn is_so(rt: &impl Abort, holds: bool, of: &str) {
+    assert!(rt; holds, "{of}");
+}
+
+/// Puts a value behind others.
+pub(crate) fn push<T: Drop>(rt: &impl Abort, values: &mut Vec<T>, value: T) {
+    values.push(value).expect(rt, "memory");
+}
+
+/// These texts, one behind the other.
+pub(crate) fn text_of(rt: &impl Abort, alloc: Global, parts: &[&str]) -> String {
+    let mut text = String::new(alloc);
+    for part in parts {
+        text.push_str(part).expect(rt, "a text");
+    }
+    text
 }
 
 /// Puts octets behind others.
@@ -61,16 +96,28 @@ pub(crate) fn prefix(rt: &impl Abort, bits: u32, len: u8) -> Prefix {
 }
 
 /// The attributes that a four-octet peer spells so.
-pub(crate) fn attrs(alloc: Global, field: &[u8]) -> Result<Attrs, AllocError> {
-    Ok(read(alloc, field, Mode::Four)?.attrs)
+pub(crate) fn attrs(rt: &impl Abort, alloc: Global, field: &[u8]) -> Attrs {
+    read(alloc, field, Mode::Four)
+        .expect(rt, "attributes")
+        .attrs
+}
+
+/// The same for several routes.
+pub(crate) fn shared(rt: &impl Abort, alloc: Global, field: &[u8]) -> Arc<Attrs> {
+    Arc::new(alloc, attrs(rt, alloc, field)).expect(rt, "attributes")
+}
+
+/// Prints a line.
+pub(crate) fn say<R: Abort + Print>(rt: &R, line: &str) {
+    println!(rt; "{line}").expect(rt, "a line");
 }
 
 /// From here on no memory is to be asked for. `tools/plays/without_memory.py` counts what is.
 pub(crate) fn from_here<R: Abort + Print>(rt: &R) {
-    println!(rt; "no memory is asked for from here").expect(rt, "a line");
+    say(rt, "no memory is asked for from here");
 }
 
 /// Up to here no memory was to be asked for.
 pub(crate) fn to_here<R: Abort + Print>(rt: &R) {
-    println!(rt; "no memory is asked for to here").expect(rt, "a line");
+    say(rt, "no memory is asked for to here");
 }

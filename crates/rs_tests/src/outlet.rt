@@ -9,8 +9,9 @@ mod asking;
 mod refused;
 mod told;
 
+use crate::common::{self, equals, is_so, push, put, shared};
 use rs_adjin::AdjIns;
-use rs_attrs::{Attrs, Mode, read};
+use rs_attrs::{Attrs, Mode};
 use rs_octets::Prefix;
 use rs_open::Limit;
 use rs_outlet::{Last, Outlet, Turned};
@@ -36,16 +37,13 @@ fn attrs(rt: &impl Abort, alloc: Global, host: u8) -> Arc<Attrs> {
     let field = [
         0x40, 1, 1, 0, 0x40, 2, 6, 2, 1, 0, 0, 0xfc, 0, 0x40, 3, 4, 0xc0, 0, 2, host,
     ];
-    let attrs = read(alloc, &field, Mode::Four)
-        .expect(rt, "attributes")
-        .attrs;
-    Arc::new(alloc, attrs).expect(rt, "attributes")
+    shared(rt, alloc, &field)
 }
 
 /// One of 131,072 prefixes of 24 bits from 10.0.0.0 on, in scattered order.
 fn prefix(rt: &impl Abort, n: u32) -> Prefix {
     let bits = 0x0a00_0000 | (n % 131_072 * 32_003 % 131_072) << 8;
-    Prefix::new(bits, 24).expect(rt, "a prefix of 24 bits")
+    common::prefix(rt, bits, 24)
 }
 
 /// A turn that went over so many touched prefixes.
@@ -139,7 +137,7 @@ impl Exchange {
     /// A turn decides so much.
     fn decides(&self, rt: &impl Abort, outlet: &mut Outlet, want: Turned) {
         let turned = self.turn(rt, outlet).expect(rt, "a turn");
-        assert_eq!(rt; turned, want);
+        equals(rt, turned, want);
     }
 }
 
@@ -152,7 +150,7 @@ fn drain(rt: &impl Abort, alloc: Global, outlet: &mut Outlet) -> Vec<u8> {
     let mut taken = Vec::new(alloc);
     for _ in 0..1_000u32 {
         outlet.begin();
-        taken.extend_from_slice(outlet.lent()).expect(rt, "octets");
+        put(rt, &mut taken, outlet.lent());
         let count = outlet.lent().len();
         outlet.took(count);
         if outlet.is_drained() {
@@ -183,7 +181,7 @@ fn more_than_4096_touched_are_all(rt: HostRuntime) {
     decides_after(&rt, &exchange, &mut outlet, 1, some(1));
     decides_after(&rt, &exchange, &mut outlet, 4_096, some(4_096));
     decides_after(&rt, &exchange, &mut outlet, 4_097, all(5_000));
-    assert_eq!(rt; outlet.last(), Last::Done(all(5_000)));
+    equals(&rt, outlet.last(), Last::Done(all(5_000)));
     let_go(exchange, outlet);
 }
 
@@ -206,13 +204,18 @@ fn a_whole_turn_counts_what_it_passes_over(rt: HostRuntime) {
     let_go(exchange, outlet);
 }
 
+/// Nothing waits.
+fn is_drained(rt: &impl Abort, outlet: &Outlet) {
+    is_so(rt, outlet.is_drained(), "drained");
+}
+
 /// All that was told is told again, and nothing else.
 fn tells_again(rt: &impl Abort, exchange: &Exchange, outlet: &mut Outlet, told: &[u8]) {
     outlet.again();
-    assert!(rt; !outlet.is_drained());
+    is_so(rt, !outlet.is_drained(), "some waits");
     let again = drain(rt, exchange.alloc, outlet);
-    assert!(rt; again.as_slice() == told);
-    assert!(rt; outlet.is_drained());
+    equals(rt, again.as_slice(), told);
+    is_drained(rt, outlet);
 }
 
 #[test]
@@ -221,9 +224,9 @@ fn all_is_told_again(rt: HostRuntime) {
     let mut outlet = exchange.outlet(&rt, CLIENT);
     exchange.decides(&rt, &mut outlet, all(3_000));
     let first = drain(&rt, exchange.alloc, &mut outlet);
-    assert!(rt; outlet.is_drained());
+    is_drained(&rt, &outlet);
     // 3,000 prefixes of 4 octets each, in messages of at most 4,096 octets
-    assert!(rt; first.len() > 12_000);
+    is_so(&rt, first.len() > 12_000, "as long as its prefixes");
     tells_again(&rt, &exchange, &mut outlet, &first);
     tells_again(&rt, &exchange, &mut outlet, &first);
     let_go(exchange, outlet);
@@ -233,7 +236,7 @@ fn all_is_told_again(rt: HostRuntime) {
 fn bits(rt: &impl Abort, exchange: &Exchange, outlet: &Outlet) -> Vec<u32> {
     let mut bits = Vec::new(exchange.alloc);
     for (prefix, _) in outlet.routes(&exchange.tables).take(10) {
-        bits.push(prefix.bits()).expect(rt, "a prefix");
+        push(rt, &mut bits, prefix.bits());
     }
     bits
 }
@@ -252,18 +255,22 @@ fn routes_rise(rt: HostRuntime) {
         0x0b77_0900,
         0x0bf4_0c00,
     ];
-    assert_eq!(rt; bits(&rt, &exchange, &outlet).as_slice(), rising.as_slice());
+    equals(
+        &rt,
+        bits(&rt, &exchange, &outlet).as_slice(),
+        rising.as_slice(),
+    );
     let_go(exchange, outlet);
 }
 
 /// From a prefix on an outlet has so many routes.
 fn has_from(rt: &impl Abort, exchange: &Exchange, outlet: &Outlet, from: (u32, u8), want: usize) {
-    let from = Prefix::new(from.0, from.1).expect(rt, "a prefix");
+    let from = common::prefix(rt, from.0, from.1);
     let mut count = 0_usize;
     for _ in outlet.routes_from(&exchange.tables, from) {
         count = count.saturating_add(1);
     }
-    assert_eq!(rt; count, want);
+    equals(rt, count, want);
 }
 
 /// The prefixes are those of `routes_rise`.
@@ -271,9 +278,9 @@ fn has_from(rt: &impl Abort, exchange: &Exchange, outlet: &Outlet, from: (u32, u
 fn routes_from_a_prefix_on(rt: HostRuntime) {
     let exchange = Exchange::with_routes(&rt, rt.alloc(), 6);
     let mut outlet = exchange.outlet(&rt, CLIENT);
-    assert_eq!(rt; outlet.count(), 0);
+    equals(&rt, outlet.count(), 0);
     exchange.decides(&rt, &mut outlet, all(6));
-    assert_eq!(rt; outlet.count(), 6);
+    equals(&rt, outlet.count(), 6);
     has_from(&rt, &exchange, &outlet, (0, 0), 6);
     has_from(&rt, &exchange, &outlet, (0x0a71_0f00, 24), 5);
     has_from(&rt, &exchange, &outlet, (0x0a71_0f00, 25), 4);

@@ -10,6 +10,7 @@ mod routes;
 mod shared;
 mod table_faults;
 
+use crate::common::{equals, is, is_of, text_of};
 use rs_policy::*;
 use std::alloc::Global;
 use std::process::Abort;
@@ -33,14 +34,29 @@ fn let_go(_config: Config) {}
 /// A text is answered by this: "good", or the text that its fault writes.
 fn is_answered(rt: &impl Abort, alloc: Global, text: &str, want: &str) {
     match Config::read(alloc, text).err() {
-        None => assert_eq!(rt; "good", want),
+        None => equals(rt, "good", want),
         Some(fault) => is_fault(rt, &fault, want),
     }
 }
 
+/// The text of these parts, one behind the other, is answered by this.
+fn are_answered(rt: &impl Abort, alloc: Global, parts: &[&str], want: &str) {
+    let text = text_of(rt, alloc, parts);
+    is_answered(rt, alloc, text.as_str(), want);
+}
+
+/// The configuration that these parts of a good text spell.
+fn read_parts(rt: &impl Abort, alloc: Global, parts: &[&str]) -> Config {
+    let text = text_of(rt, alloc, parts);
+    read(rt, alloc, text.as_str())
+}
+
+/// Room for a text, to which nothing was written.
+const BLANK: [u8; 96] = [b'.'; 96];
+
 /// A fault writes this text.
 fn is_fault(rt: &impl Abort, fault: &ConfigFault, want: &str) {
-    let mut out = [b'.'; 96];
+    let mut out = BLANK;
     let len = fault.write(&mut out);
     is_written(rt, &out, len, want);
 }
@@ -48,12 +64,6 @@ fn is_fault(rt: &impl Abort, fault: &ConfigFault, want: &str) {
 /// So many octets at the front are this text, and behind them nothing was written.
 fn is_written(rt: &impl Abort, out: &[u8; 96], len: usize, want: &str) {
     assert!(rt; len <= out.len(), "for {want}");
-    assert_eq!(rt; &out[..len], want.as_bytes(), "for {want}");
-    is_blank(rt, &out[len..], want);
-}
-
-/// Nothing was written to these octets behind a text.
-fn is_blank(rt: &impl Abort, rest: &[u8], text: &str) {
-    let is_blank = rest.iter().all(|octet| *octet == b'.');
-    assert!(rt; is_blank, "behind {text}");
+    is(rt, &out[..len], want.as_bytes(), want);
+    is(rt, &out[len..], &BLANK[len..], want);
 }

@@ -1,7 +1,7 @@
 //! Reasons worked out by hand from a configuration's rules.
 
-use crate::common::ROUTE;
-use rs_attrs::{Attrs, Mode, read};
+use crate::common::{ROUTE, attrs, equals, prefix, text_of};
+use rs_attrs::Attrs;
 use rs_octets::Prefix;
 use rs_policy::Config;
 use rs_reasons::explain;
@@ -120,30 +120,26 @@ fn is_said(
     assert!(rt; from < config.clients() && to < config.clients());
     let answer = explain(config, from, to, &prefix, attrs);
     let text = format!(in alloc; "{answer}").expect(rt, "a text");
-    assert_eq!(rt; text.as_str(), want);
+    equals(rt, text.as_str(), want);
 }
 
 #[test]
 fn each_list_tells_its_rule(rt: HostRuntime) {
     let config = Config::read(rt.alloc(), CONFIG).expect(&rt, "a configuration");
     for (bits, len, octets, want) in &REASONS {
-        let prefix = Prefix::new(*bits, *len).expect(&rt, "a length of at most 32");
-        let attrs = read(rt.alloc(), *octets, Mode::Four)
-            .expect(&rt, "attributes")
-            .attrs;
-        is_said(&rt, rt.alloc(), &config, (0, 1), (prefix, &attrs), *want);
+        let prefix = prefix(&rt, *bits, *len);
+        let attrs = attrs(&rt, rt.alloc(), octets);
+        is_said(&rt, rt.alloc(), &config, (0, 1), (prefix, &attrs), want);
     }
 }
 
 /// Beta's own routes go by no import rule, and where the default drops, by that.
 #[test]
 fn the_default_is_told(rt: HostRuntime) {
-    let text = format!(in rt.alloc(); "default = \"drop\"\n{CONFIG}").expect(&rt, "a text");
+    let text = text_of(&rt, rt.alloc(), &["default = \"drop\"\n", CONFIG]);
     let config = Config::read(rt.alloc(), text.as_str()).expect(&rt, "a configuration");
-    let attrs = read(rt.alloc(), &ROUTE, Mode::Four)
-        .expect(&rt, "attributes")
-        .attrs;
-    let prefix = Prefix::new(0xcb00_7100, 24).expect(&rt, "a length of at most 32");
+    let attrs = attrs(&rt, rt.alloc(), &ROUTE);
+    let prefix = prefix(&rt, 0xcb00_7100, 24);
     is_said(
         &rt,
         rt.alloc(),

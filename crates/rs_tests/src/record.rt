@@ -1,7 +1,7 @@
 //! Tests of `rs_record`: each kind of event by its lines, and a link that is recorded: what it was recorded by
 //! replays to the octets that it took.
 
-use crate::common::put;
+use crate::common::{equals, is_of, is_so, put};
 use rs_core::{Core, Event, Link, Sink, Source};
 use rs_open::ShutdownText;
 use rs_policy::{Config, RulesFault};
@@ -58,8 +58,9 @@ fn is_said(rt: &impl Abort, alloc: Global, names: &ClientNames, event: Event, li
     let mut piece = [0u8; 4096];
     piece[..3].copy_from_slice(&[0xff, 0x00, 0x1b]);
     let mut line = Vec::new(alloc);
-    assert!(rt; put_event(&mut line, names, event, &piece, b"as\n").is_ok());
-    assert_eq!(rt; line.as_slice(), lines.as_bytes(), "{event:?}");
+    let put = put_event(&mut line, names, event, &piece, b"as\n");
+    is_so(rt, put.is_ok(), "lines");
+    is_of(rt, line.as_slice(), lines.as_bytes(), &event);
 }
 
 /// Events, each with its lines.
@@ -134,7 +135,7 @@ fn is_parted(rt: &impl Abort, alloc: Global, size: usize, parts: [usize; 3]) {
     }
     put_part(rt, &mut wanted, b"rules ", last);
     let lines = lines_of_text(rt, alloc, size).expect(rt, "lines");
-    assert!(rt; lines == wanted, "{size}");
+    is_of(rt, lines, wanted, &size);
 }
 
 #[test]
@@ -145,7 +146,8 @@ fn texts_of_any_size(rt: HostRuntime) {
     is_parted(&rt, rt.alloc(), 4097, [0, 4096, 1]);
     is_parted(&rt, rt.alloc(), 8193, [4096, 4096, 1]);
     let over = lines_of_text(&rt, rt.alloc(), 64 * 1024 * 1024 + 1);
-    assert!(rt; over.is_err_and(|fault| fault == RecordFault::TextTooLong));
+    let is_too_long = over.is_err_and(|fault| fault == RecordFault::TextTooLong);
+    is_so(&rt, is_too_long, "too long");
 }
 
 /// A link that gives the core events with their octets, and of what it is offered after each takes so many
@@ -271,8 +273,8 @@ fn recorded<R: Wait + Abort>(rt: &R, alloc: Global, link: &mut Script<'_>) -> Re
     let mut core = Core::new(alloc, config).expect(rt, "a route server");
     let mut reel = Reel::new(alloc, 1 << 20);
     drive_recorded(rt, &mut core, link, &mut recorder, &mut reel);
-    assert!(rt; recorder.fault().is_none());
-    assert!(rt; !reel.is_over());
+    is_so(rt, recorder.fault().is_none(), "no fault");
+    is_so(rt, !reel.is_over(), "room on the reel");
     reel
 }
 
@@ -291,7 +293,7 @@ fn replayed<R: Threads + Wait + Sync + Abort>(rt: &R, alloc: Global, record: &[u
         config,
         1,
     );
-    assert_eq!(rt; played, Ok(()));
+    equals(rt, played, Ok(()));
     output
 }
 
@@ -310,7 +312,7 @@ fn sent_in(rt: &impl Abort, alloc: Global, output: &[u8], front: &[u8]) -> Vec<u
 /// A replay's output has just these octets of a client.
 fn has_sent(rt: &impl Abort, alloc: Global, output: &[u8], front: &[u8], want: &[u8]) {
     let octets = sent_in(rt, alloc, output, front);
-    assert_eq!(rt; octets.as_slice(), want);
+    equals(rt, octets.as_slice(), want);
 }
 
 /// The session is recorded of a link that takes so many octets after each event and fails at this offer, if any,
@@ -326,7 +328,8 @@ fn is_replayed<R: Threads + Wait + Sync + Abort>(
     let output = replayed(rt, alloc, reel.waiting());
     has_sent(rt, alloc, &output, b"sent a ", &link.sent_a);
     has_sent(rt, alloc, &output, b"sent member-2 ", &link.sent_b);
-    assert!(rt; failing > 0 || link.sent_b.ends_with(WITHDRAWN), "{grain}");
+    let is_withdrawn = failing > 0 || link.sent_b.ends_with(WITHDRAWN);
+    is_of(rt, is_withdrawn, true, &grain);
 }
 
 #[test]
@@ -342,7 +345,7 @@ fn what_was_recorded_replays(rt: HostRuntime) {
 
 /// These lines wait on a reel.
 fn waits(rt: &impl Abort, reel: &Reel, lines: &[u8]) {
-    assert_eq!(rt; reel.waiting(), lines);
+    equals(rt, reel.waiting(), lines);
 }
 
 #[test]
@@ -354,9 +357,9 @@ fn a_reel_is_over(rt: HostRuntime) {
     reel.clear();
     // One event's lines find room on an empty reel, and nothing behind them.
     reel.take(b"open member-2\n");
-    assert!(rt; !reel.is_over());
+    is_so(&rt, !reel.is_over(), "room on the reel");
     reel.take(b"turn\n");
-    assert!(rt; reel.is_over());
+    is_so(&rt, reel.is_over(), "over");
     reel.clear();
     reel.take(b"turn\n");
     waits(&rt, &reel, b"");

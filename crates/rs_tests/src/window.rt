@@ -1,7 +1,7 @@
 //! Visits over octets in memory: what is answered to requests that come whole, in parts, many at once, and to
 //! what is none. The answers are written by hand from RFC 9110 and RFC 9112.
 
-use crate::common::put;
+use crate::common::{equals, is_of, is_so, put};
 use rs_window::page::{Kind, Next, Page, Pages, Piece};
 use rs_window::visit::{PATIENCE, Visit};
 use std::alloc::{AllocError, Global};
@@ -126,13 +126,13 @@ impl Play {
 
     /// The visitor was sent just this, and the connection is closed after it or not.
     fn was_sent(&self, rt: &impl Abort, want: &[u8], is_done: bool) {
-        assert!(rt; self.sent.as_slice() == want);
-        assert_eq!(rt; self.visit.is_done(), is_done);
+        equals(rt, self.sent.as_slice(), want);
+        equals(rt, self.visit.is_done(), is_done);
     }
 
     /// So many seconds after the start the visitor is late or not.
     fn is_late(&self, rt: &impl Abort, now: u64, want: bool) {
-        assert_eq!(rt; self.visit.is_late(now), want);
+        equals(rt, self.visit.is_late(now), want);
     }
 
     /// Lets it go in one call, which is one step of a test, and not one for each of its parts.
@@ -156,8 +156,8 @@ fn is_answered(rt: &impl Abort, alloc: Global, said: &[u8], want: &[u8], is_done
 /// The answer begins so, and the connection is closed after it or not.
 fn check(rt: &impl Abort, alloc: Global, said: &[u8], begins: &[u8], is_done: bool) {
     let play = answer(rt, alloc, said);
-    assert!(rt; play.sent.starts_with(begins));
-    assert_eq!(rt; play.visit.is_done(), is_done);
+    is_so(rt, play.sent.starts_with(begins), "the front");
+    equals(rt, play.visit.is_done(), is_done);
     play.let_go();
 }
 
@@ -188,8 +188,8 @@ fn is_answered_in_parts(rt: &impl Abort, alloc: Global, cut: usize, want: &[u8])
     let mut play = Play::new(rt, alloc);
     play.say(rt, front, 7);
     play.say(rt, behind, 7);
-    assert!(rt; play.sent.as_slice() == want, "cut at {cut}");
-    assert!(rt; !play.visit.is_done());
+    is_of(rt, play.sent.as_slice(), want, &("cut at", cut));
+    is_so(rt, !play.visit.is_done(), "the visit goes on");
     play.let_go();
 }
 
@@ -246,7 +246,7 @@ fn a_thousand_requests_at_once_are_answered_in_order(rt: HostRuntime) {
         put_answer(&rt, rt.alloc(), &mut want, digit);
     }
     let play = answer(&rt, rt.alloc(), &said);
-    assert!(rt; play.sent == want);
+    equals(&rt, play.sent.as_slice(), want.as_slice());
     play.let_go();
 }
 

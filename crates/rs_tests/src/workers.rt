@@ -3,9 +3,9 @@
 ghost use Rattle.std.specs.Prelude.{IfOk};
 ghost use Rattle.rs_workers.specs.Turned.{ArePlaced};
 
+use crate::common::{equals, is_of, is_so, prefix, shared};
 use rs_adjin::AdjIns;
-use rs_attrs::{Attrs, Mode, read};
-use rs_octets::Prefix;
+use rs_attrs::{Attrs, Mode};
 use rs_open::Limit;
 use rs_outlet::{Last, Outlet, Turned, note_all};
 use rs_policy::Config;
@@ -104,15 +104,12 @@ fn attrs(rt: &impl Abort, alloc: Global, host: u8) -> Arc<Attrs> {
     let field = [
         0x40, 1, 1, 0, 0x40, 2, 6, 2, 1, 0, 0, 0xfb, 0xf0, 0x40, 3, 4, 0xc0, 0, 2, host,
     ];
-    let attrs = read(alloc, &field, Mode::Four)
-        .expect(rt, "attributes")
-        .attrs;
-    Arc::new(alloc, attrs).expect(rt, "attributes")
+    shared(rt, alloc, &field)
 }
 
 /// A member announces one of 65,536 prefixes of 24 bits from 10.0.0.0 on.
 fn announce(rt: &impl Abort, tables: &mut AdjIns, member: usize, n: u32, attrs: &Arc<Attrs>) {
-    let prefix = Prefix::new(0x0a00_0000 | (n & 0xffff) << 8, 24).expect(rt, "a prefix");
+    let prefix = prefix(rt, 0x0a00_0000 | (n & 0xffff) << 8, 24);
     assert!(rt; member < tables.clients());
     assert!(rt; attrs.has_mandatory());
     tables
@@ -199,9 +196,9 @@ fn have_decided(rt: &impl Abort, all: &[Outlet], count: usize, decided: usize) {
         decided,
         whole: true,
     });
-    assert_eq!(rt; all.len(), count);
+    equals(rt, all.len(), count);
     for outlet in all {
-        assert_eq!(rt; outlet.last(), done);
+        equals(rt, outlet.last(), done);
     }
 }
 
@@ -238,7 +235,7 @@ fn both_shares_run(rt: HostRuntime) {
     let gate = Both::new();
     let mut exchange = Exchange::new(&rt, rt.alloc(), 2, 10);
     let all = exchange.turned(&rt, 2, &gate);
-    assert!(rt; !gate.has_failed());
+    is_so(&rt, !gate.has_failed(), "both run");
     have_decided(&rt, &all, 2, 10);
 }
 
@@ -256,7 +253,7 @@ fn has_shares<R: Threads + Wait + Sync + Abort>(
     for (share, entries) in gate.shares.iter().enumerate() {
         let count = entries.load(Ordering::SeqCst);
         let want = u64::from(share < shares);
-        assert_eq!(rt; count, want, "share {share} of {members} by {workers}");
+        is_of(rt, count, want, &(share, members, workers));
     }
 }
 
@@ -276,7 +273,7 @@ fn is_the_same<R: Threads + Wait + Sync + Abort>(rt: &R, exchange: &mut Exchange
     let mut all = exchange.turned(rt, workers, &Free);
     have_decided(rt, &all, 7, 10_000);
     for (one, other) in alone.iter_mut().zip(all.iter_mut()) {
-        assert!(rt; are_alike(one, other), "{workers} workers");
+        is_of(rt, are_alike(one, other), true, &("workers", workers));
     }
 }
 

@@ -4,7 +4,7 @@ use super::*;
 
 /// A prefix has this number, or none.
 fn has_number(rt: &impl Abort, ins: &AdjIns, of: (u32, u8), want: Option<u32>) {
-    assert_eq!(rt; ins.number(prefix(rt, of)), want);
+    equals(rt, ins.number(prefix(rt, of)), want);
 }
 
 /// A number stays until it is given up, which it isn't while a client has a route there, and then
@@ -16,18 +16,18 @@ fn numbers_stay_until_given_up(rt: HostRuntime) {
     let other = (0x0b00_0000, 8);
     has_number(&rt, &ins, WIDE, Some(0));
     has_number(&rt, &ins, INNER, Some(2));
-    assert_eq!(rt; ins.numbers(), 3);
-    assert!(rt; !ins.release(2));
+    equals(&rt, ins.numbers(), 3);
+    is_so(&rt, !ins.release(2), "kept");
     clear(&rt, &mut ins, 0);
     has_number(&rt, &ins, INNER, Some(2));
-    assert!(rt; ins.release(2));
+    is_so(&rt, ins.release(2), "given up");
     has_number(&rt, &ins, INNER, None);
-    assert!(rt; ins.prefix(2).is_none());
+    equals(&rt, ins.prefix(2), None);
     let one = attrs(&rt, alloc, 1);
     put(&rt, &mut ins, 1, other, &one);
     has_number(&rt, &ins, other, Some(2));
-    assert_eq!(rt; ins.prefix(2), Some(prefix(&rt, other)));
-    assert_eq!(rt; ins.numbers(), 3);
+    equals(&rt, ins.prefix(2), Some(prefix(&rt, other)));
+    equals(&rt, ins.numbers(), 3);
     let_attrs_go(one);
     let_go(ins);
 }
@@ -43,25 +43,27 @@ fn holds_by_number(
     assert!(rt; client < ins.clients());
     let mut held = Vec::new(alloc);
     for (prefix, number) in ins.held_by_number(client) {
-        held.push((prefix.bits(), prefix.len(), number))
-            .expect(rt, "a prefix");
+        push(rt, &mut held, (prefix.bits(), prefix.len(), number));
     }
-    assert_eq!(rt; held.as_slice(), want);
+    equals(rt, held.as_slice(), want);
 }
 
-/// The prefix that stands between two others came last, and has the greatest number.
+/// What clients 0 and 1 hold. The prefix that stands between two others came last, and has the greatest number.
+const OF_0: [(u32, u8, u32); 3] = [
+    (WIDE.0, WIDE.1, 0),
+    (OTHER.0, OTHER.1, 1),
+    (INNER.0, INNER.1, 2),
+];
+
+const OF_1: [(u32, u8, u32); 2] = [(WIDE.0, WIDE.1, 0), (OTHER.0, OTHER.1, 1)];
+
 #[test]
 fn what_is_held_rises_by_prefix_or_by_number(rt: HostRuntime) {
     let alloc = rt.alloc();
     let ins = filled(&rt, alloc);
-    let listed = [
-        (WIDE.0, WIDE.1, 0),
-        (OTHER.0, OTHER.1, 1),
-        (INNER.0, INNER.1, 2),
-    ];
-    holds(&rt, alloc, &ins, 0, &[WIDE, INNER, OTHER]);
-    holds_by_number(&rt, alloc, &ins, 0, &listed);
-    holds_by_number(&rt, alloc, &ins, 1, &listed[..2]);
+    holds(&rt, alloc, &ins, 0, &ALL_THREE);
+    holds_by_number(&rt, alloc, &ins, 0, &OF_0);
+    holds_by_number(&rt, alloc, &ins, 1, &OF_1);
     let_go(ins);
 }
 
@@ -80,7 +82,7 @@ fn changes_at(
     let changed = ins
         .put_at(client, number, attrs, 0, 0)
         .expect(rt, "a route");
-    assert_eq!(rt; changed, want);
+    equals(rt, changed, want);
 }
 
 /// Withdraws a route by the number of its prefix, or answers None where the prefix has none.
@@ -98,7 +100,7 @@ fn withdraws_at(
     of: (u32, u8),
     want: Option<bool>,
 ) {
-    assert_eq!(rt; withdraw_at(rt, ins, client, of), want);
+    equals(rt, withdraw_at(rt, ins, client, of), want);
 }
 
 /// The last octet of the next hop of a client's route.
@@ -108,7 +110,7 @@ fn route(rt: &impl Abort, ins: &AdjIns, client: usize, of: (u32, u8)) -> Option<
 
 /// A client's route has a next hop with this last octet, or it has none.
 fn has_route(rt: &impl Abort, ins: &AdjIns, client: usize, of: (u32, u8), want: Option<u32>) {
-    assert_eq!(rt; route(rt, ins, client, of), want);
+    equals(rt, route(rt, ins, client, of), want);
 }
 
 #[test]
@@ -157,9 +159,9 @@ fn a_million_prefixes_take_few_numbers(rt: HostRuntime) {
     let attrs = attrs(&rt, rt.alloc(), 1);
     for round in 0..245 {
         come_and_go(&rt, &mut ins, &attrs, round * 4096, 4096);
-        assert_eq!(rt; ins.numbers(), 4096);
+        equals(&rt, ins.numbers(), 4096);
     }
-    assert!(rt; ins.iter().next().is_none());
+    is_so(&rt, ins.iter().next().is_none(), "no prefix is left");
     let_attrs_go(attrs);
     let_go(ins);
 }

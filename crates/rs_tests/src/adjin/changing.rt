@@ -6,7 +6,7 @@ use super::*;
 fn new_tables_are_empty(rt: HostRuntime) {
     let alloc = rt.alloc();
     let ins = tables(&rt, alloc, 3);
-    assert_eq!(rt; ins.clients(), 3);
+    equals(&rt, ins.clients(), 3);
     holds(&rt, alloc, &ins, 2, &[]);
     are_at(&rt, alloc, &ins, WIDE, &[]);
     are_candidates(&rt, alloc, &ins, WIDE, &[]);
@@ -18,26 +18,29 @@ fn new_tables_are_empty(rt: HostRuntime) {
 fn routes_are_listed_in_order(rt: HostRuntime) {
     let alloc = rt.alloc();
     let ins = filled(&rt, alloc);
-    holds(&rt, alloc, &ins, 0, &[WIDE, INNER, OTHER]);
+    holds(&rt, alloc, &ins, 0, &ALL_THREE);
     holds(&rt, alloc, &ins, 1, &[WIDE, OTHER]);
     holds(&rt, alloc, &ins, 2, &[WIDE]);
     are_at(&rt, alloc, &ins, WIDE, &[(0, 1), (1, 1), (2, 2)]);
     are_at(&rt, alloc, &ins, INNER, &[(0, 2)]);
     are_at(&rt, alloc, &ins, OTHER, &[(0, 1), (1, 2)]);
-    let wide = [
-        (0, 0xc000_020a, 1),
-        (1, 0xc000_020b, 1),
-        (2, 0xc000_020c, 2),
-    ];
-    are_candidates(&rt, alloc, &ins, WIDE, &wide);
-    let listed = [
-        (WIDE.0, WIDE.1, 3),
-        (INNER.0, INNER.1, 1),
-        (OTHER.0, OTHER.1, 2),
-    ];
-    are_held(&rt, alloc, &ins, &listed);
+    are_candidates(&rt, alloc, &ins, WIDE, &FOR_WIDE);
+    are_held(&rt, alloc, &ins, &BY_ALL);
     let_go(ins);
 }
+
+/// The candidates for 10.0.0.0/8, and how many hold each prefix.
+const FOR_WIDE: [(usize, u32, u32); 3] = [
+    (0, 0xc000_020a, 1),
+    (1, 0xc000_020b, 1),
+    (2, 0xc000_020c, 2),
+];
+
+const BY_ALL: [(u32, u8, usize); 3] = [
+    (WIDE.0, WIDE.1, 3),
+    (INNER.0, INNER.1, 1),
+    (OTHER.0, OTHER.1, 2),
+];
 
 /// Puts a route, which changes the value or doesn't.
 fn changes(
@@ -48,7 +51,7 @@ fn changes(
     attrs: &Arc<Attrs>,
     want: bool,
 ) {
-    assert_eq!(rt; put(rt, ins, client, of, attrs), want);
+    equals(rt, put(rt, ins, client, of, attrs), want);
 }
 
 #[test]
@@ -62,8 +65,8 @@ fn put_tells_whether_the_value_changed(rt: HostRuntime) {
     changes(&rt, &mut ins, 1, INNER, &other, true);
     are_at(&rt, alloc, &ins, OTHER, &[(0, 1), (1, 3)]);
     are_at(&rt, alloc, &ins, INNER, &[(0, 2), (1, 3)]);
-    holds(&rt, alloc, &ins, 1, &[WIDE, INNER, OTHER]);
-    assert_eq!(rt; Arc::strong_count(&other), 3);
+    holds(&rt, alloc, &ins, 1, &ALL_THREE);
+    equals(&rt, Arc::strong_count(&other), 3);
     let_attrs_go(same);
     let_attrs_go(other);
     let_go(ins);
@@ -71,7 +74,7 @@ fn put_tells_whether_the_value_changed(rt: HostRuntime) {
 
 /// Withdraws a route that a client has or has not.
 fn withdraws(rt: &impl Abort, ins: &mut AdjIns, client: usize, of: (u32, u8), want: bool) {
-    assert_eq!(rt; withdraw(rt, ins, client, of), want);
+    equals(rt, withdraw(rt, ins, client, of), want);
 }
 
 #[test]
@@ -84,8 +87,12 @@ fn withdraw_takes_one_clients_route(rt: HostRuntime) {
     holds(&rt, alloc, &ins, 1, &[OTHER]);
     withdraws(&rt, &mut ins, 0, INNER, true);
     are_at(&rt, alloc, &ins, INNER, &[]);
-    let listed = [(WIDE.0, WIDE.1, 2), (OTHER.0, OTHER.1, 2)];
-    are_held(&rt, alloc, &ins, &listed);
+    are_held(
+        &rt,
+        alloc,
+        &ins,
+        &[(WIDE.0, WIDE.1, 2), (OTHER.0, OTHER.1, 2)],
+    );
     let_go(ins);
 }
 
@@ -98,14 +105,28 @@ fn clear_takes_one_clients_routes(rt: HostRuntime) {
     holds(&rt, alloc, &ins, 1, &[WIDE, OTHER]);
     are_at(&rt, alloc, &ins, WIDE, &[(1, 1), (2, 2)]);
     are_at(&rt, alloc, &ins, OTHER, &[(1, 2)]);
-    let listed = [(WIDE.0, WIDE.1, 2), (OTHER.0, OTHER.1, 1)];
-    are_held(&rt, alloc, &ins, &listed);
-    let one = attrs(&rt, alloc, 1);
-    put(&rt, &mut ins, 0, OTHER, &one);
-    let other = [(0, 0xc000_020a, 1), (1, 0xc000_020b, 2)];
-    are_candidates(&rt, alloc, &ins, OTHER, &other);
-    let_attrs_go(one);
+    are_held(
+        &rt,
+        alloc,
+        &ins,
+        &[(WIDE.0, WIDE.1, 2), (OTHER.0, OTHER.1, 1)],
+    );
+    put_one(&rt, alloc, &mut ins, 0, OTHER);
+    are_candidates(
+        &rt,
+        alloc,
+        &ins,
+        OTHER,
+        &[(0, 0xc000_020a, 1), (1, 0xc000_020b, 2)],
+    );
     let_go(ins);
+}
+
+/// Puts a route with NEXT_HOP 192.0.2.1.
+fn put_one(rt: &impl Abort, alloc: Global, ins: &mut AdjIns, client: usize, of: (u32, u8)) {
+    let one = attrs(rt, alloc, 1);
+    put(rt, ins, client, of, &one);
+    let_attrs_go(one);
 }
 
 #[test]
@@ -115,14 +136,18 @@ fn begin_empties_and_names(rt: HostRuntime) {
     begin(&rt, &mut ins, 2, 7);
     holds(&rt, alloc, &ins, 2, &[]);
     are_at(&rt, alloc, &ins, WIDE, &[(0, 1), (1, 1)]);
-    let one = attrs(&rt, alloc, 1);
-    put(&rt, &mut ins, 2, INNER, &one);
+    put_one(&rt, alloc, &mut ins, 2, INNER);
     are_candidates(&rt, alloc, &ins, INNER, &[(0, 0xc000_020a, 2), (2, 7, 1)]);
-    assert_eq!(rt; ins.clients(), 3);
-    assert_eq!(rt; ins.identifier(2), 7);
-    assert_eq!(rt; ins.identifier(1), 0xc000_020b);
-    let_attrs_go(one);
+    equals(&rt, ins.clients(), 3);
+    is_identified(&rt, &ins, 2, 7);
+    is_identified(&rt, &ins, 1, 0xc000_020b);
     let_go(ins);
+}
+
+/// A client has this BGP Identifier.
+fn is_identified(rt: &impl Abort, ins: &AdjIns, client: usize, want: u32) {
+    assert!(rt; client < ins.clients());
+    equals(rt, ins.identifier(client), want);
 }
 
 /// How many routes there are for a prefix, how many prefixes a client holds, and how many sets of attributes all
@@ -148,10 +173,19 @@ fn put_or_nothing(
     let before = sizes(rt, ins, client, prefix);
     let number = ins.number(prefix);
     if try_put(rt, ins, client, of, attrs).is_err() {
-        assert_eq!(rt; sizes(rt, ins, client, prefix), before);
-        assert_eq!(rt; ins.number(prefix), number);
+        equals(rt, sizes(rt, ins, client, prefix), before);
+        equals(rt, ins.number(prefix), number);
         put(rt, ins, client, of, attrs);
     }
+}
+
+/// Client 0, 1 or 2 puts its route for the prefix of this number, 0 to 19, behind all others'.
+fn is_put(rt: &impl Abort, ins: &mut AdjIns, client: usize, third: u8, attrs: &Arc<Attrs>) {
+    let of = (u32::from(third) * 256, 24);
+    put_or_nothing(rt, ins, client, of, attrs);
+    let count = usize::from(third) + 1;
+    let want = (client % 3 + 1, count, client % 3 * 20 + count);
+    equals(rt, sizes(rt, ins, client, prefix(rt, of)), want);
 }
 
 /// Memory is refused nowhere in an ordinary run: this is for runs in which one allocation fails.
@@ -162,16 +196,7 @@ fn a_refused_put_changes_nothing(rt: HostRuntime) {
     let one = attrs(&rt, alloc, 1);
     for client in 0..3 {
         for third in 0..20u8 {
-            let of = (u32::from(third) * 256, 24);
-            put_or_nothing(&rt, &mut ins, client, of, &one);
-            assert_eq!(rt;
-                sizes(&rt, &ins, client, prefix(&rt, of)),
-                (
-                    client + 1,
-                    usize::from(third) + 1,
-                    client * 20 + usize::from(third) + 1
-                )
-            );
+            is_put(&rt, &mut ins, client, third, &one);
         }
     }
     let_attrs_go(one);

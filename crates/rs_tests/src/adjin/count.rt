@@ -13,19 +13,19 @@ fn count_after(
 ) {
     assert!(rt; client < ins.clients());
     assert!(rt; gone != new);
-    assert_eq!(rt; ins.count_after(client, &[gone], &[new]), want);
+    equals(rt, ins.count_after(client, &[gone], &[new]), want);
 }
 
 /// The same where it is withdrawn and nothing is announced.
 fn count_without(rt: &impl Abort, ins: &AdjIns, client: usize, gone: Prefix, want: usize) {
     assert!(rt; client < ins.clients());
-    assert_eq!(rt; ins.count_after(client, &[gone], &[]), want);
+    equals(rt, ins.count_after(client, &[gone], &[]), want);
 }
 
 /// The same where it is announced and nothing is withdrawn.
 fn count_with(rt: &impl Abort, ins: &AdjIns, client: usize, new: Prefix, want: usize) {
     assert!(rt; client < ins.clients());
-    assert_eq!(rt; ins.count_after(client, &[], &[new]), want);
+    equals(rt, ins.count_after(client, &[], &[new]), want);
 }
 
 /// Client 1 holds 10.0.0.0/8 and 192.0.2.0/24.

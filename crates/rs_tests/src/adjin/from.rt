@@ -23,43 +23,61 @@ fn holds_from(
     let from = prefix(rt, from);
     let mut routes = Vec::new(alloc);
     for (prefix, attrs) in ins.routes_from(client, from) {
-        let next_hop = attrs.next_hop().unwrap_or(0);
-        routes
-            .push((prefix.bits(), prefix.len(), next_hop % 256))
-            .expect(rt, "a route");
+        push(
+            rt,
+            &mut routes,
+            (prefix.bits(), prefix.len(), last_octet(attrs)),
+        );
     }
-    assert_eq!(rt; routes.as_slice(), want);
+    equals(rt, routes.as_slice(), want);
+    equals(rt, listed_from(rt, ins, client, from), want.len());
+}
+
+/// How many prefixes of a client are listed from this one on.
+fn listed_from(rt: &impl Abort, ins: &AdjIns, client: usize, from: Prefix) -> usize {
+    assert!(rt; client < ins.clients());
     let mut listed = 0_usize;
     for _ in ins.held_from(client, from) {
         listed = listed.saturating_add(1);
     }
-    assert_eq!(rt; listed, want.len());
+    listed
 }
+
+/// What client 0 holds.
+const ALL: [(u32, u8, u32); 3] = [
+    (WIDE.0, WIDE.1, 1),
+    (INNER.0, INNER.1, 2),
+    (OTHER.0, OTHER.1, 1),
+];
+
+const BEHIND_WIDE: [(u32, u8, u32); 2] = [(INNER.0, INNER.1, 2), (OTHER.0, OTHER.1, 1)];
 
 #[test]
 fn what_is_held_from_a_prefix_on(rt: HostRuntime) {
     let alloc = rt.alloc();
     let ins = filled(&rt, alloc);
-    let all = [
-        (WIDE.0, WIDE.1, 1),
-        (INNER.0, INNER.1, 2),
-        (OTHER.0, OTHER.1, 1),
-    ];
-    holds_from(&rt, alloc, &ins, 0, FIRST, &all);
-    holds_from(&rt, alloc, &ins, 0, WIDE, &all);
-    holds_from(&rt, alloc, &ins, 0, BETWEEN, &all[1..]);
-    holds_from(&rt, alloc, &ins, 0, INNER, &all[1..]);
-    holds_from(&rt, alloc, &ins, 0, OTHER, &all[2..]);
-    holds_from(&rt, alloc, &ins, 0, BEHIND, &[]);
-    holds_from(&rt, alloc, &ins, 1, INNER, &[(OTHER.0, OTHER.1, 2)]);
-    holds_from(&rt, alloc, &ins, 2, INNER, &[]);
+    for (client, from, want) in &HELD_FROM {
+        holds_from(&rt, alloc, &ins, *client, *from, want);
+    }
     let_go(ins);
 }
+
+/// A client, a prefix, and what it holds from there on.
+const HELD_FROM: [(usize, (u32, u8), &[(u32, u8, u32)]); 8] = [
+    (0, FIRST, &ALL),
+    (0, WIDE, &ALL),
+    (0, BETWEEN, &BEHIND_WIDE),
+    (0, INNER, &BEHIND_WIDE),
+    (0, OTHER, &[(OTHER.0, OTHER.1, 1)]),
+    (0, BEHIND, &[]),
+    (1, INNER, &[(OTHER.0, OTHER.1, 2)]),
+    (2, INNER, &[]),
+];
 
 /// A client holds so many prefixes.
 fn counts(rt: &impl Abort, ins: &AdjIns, client: usize, want: usize) {
     assert!(rt; client < ins.clients());
-    assert_eq!(rt; ins.count(client), want);
+    equals(rt, ins.count(client), want);
 }
 
 #[test]
@@ -84,11 +102,9 @@ fn numbered_prefixes_from_a_prefix_on(rt: HostRuntime) {
     clear(&rt, &mut ins, 0);
     let mut listed = Vec::new(alloc);
     for (prefix, number) in ins.iter_from(prefix(&rt, BETWEEN)) {
-        listed
-            .push((prefix.bits(), prefix.len(), number))
-            .expect(&rt, "a prefix");
+        push(&rt, &mut listed, (prefix.bits(), prefix.len(), number));
     }
     let want = [(INNER.0, INNER.1, 2), (OTHER.0, OTHER.1, 1)];
-    assert_eq!(rt; listed.as_slice(), want.as_slice());
+    equals(&rt, listed.as_slice(), want.as_slice());
     let_go(ins);
 }

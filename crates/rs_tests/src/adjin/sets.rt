@@ -20,20 +20,20 @@ fn puts(
     assert!(rt; attrs.has_mandatory());
     ins.put(client, prefix(rt, of), attrs, 0, set)
         .expect(rt, "a route");
-    assert_eq!(rt; ins.set_count(), want);
+    equals(rt, ins.set_count(), want);
 }
 
 /// Withdraws a route, if there is one; so many sets there are then.
 fn withdraws(rt: &impl Abort, ins: &mut AdjIns, client: usize, of: (u32, u8), want: usize) {
     withdraw(rt, ins, client, of);
-    assert_eq!(rt; ins.set_count(), want);
+    equals(rt, ins.set_count(), want);
 }
 
 #[test]
 fn sets_of_routes_are_counted(rt: HostRuntime) {
     let alloc = rt.alloc();
     let mut ins = tables(&rt, alloc, 3);
-    assert_eq!(rt; ins.set_count(), 0);
+    equals(&rt, ins.set_count(), 0);
     let one = attrs(&rt, alloc, 1);
     let two = attrs(&rt, alloc, 2);
     // The routes of one UPDATE share a set.
@@ -46,16 +46,16 @@ fn sets_of_routes_are_counted(rt: HostRuntime) {
     // A route that has the attributes already keeps its set.
     let third = unused(&rt, &ins);
     puts(&rt, &mut ins, 1, WIDE, (&one, third), 2);
-    assert_eq!(rt; unused(&rt, &ins), third);
+    equals(&rt, unused(&rt, &ins), third);
     // Others replace them: with the last route of the first set its number is free.
     puts(&rt, &mut ins, 0, WIDE, (&two, third), 3);
     puts(&rt, &mut ins, 0, INNER, (&two, third), 2);
-    assert_eq!(rt; unused(&rt, &ins), first);
+    equals(&rt, unused(&rt, &ins), first);
     withdraws(&rt, &mut ins, 0, WIDE, 2);
     withdraws(&rt, &mut ins, 2, WIDE, 2);
     withdraws(&rt, &mut ins, 0, INNER, 1);
     clear(&rt, &mut ins, 1);
-    assert_eq!(rt; ins.set_count(), 0);
+    equals(&rt, ins.set_count(), 0);
     let_attrs_go(one);
     let_attrs_go(two);
     let_go(ins);

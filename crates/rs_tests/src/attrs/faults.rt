@@ -1,6 +1,7 @@
 //! What is noted of fields that are not well formed.
 
 use super::octets;
+use crate::common::{equals, is, is_of, text_of};
 use rs_attrs::{AttributeFault, Cause, Faulted, Mode, attribute_name, read};
 use std::alloc::{AllocError, Global};
 use std::process::Abort;
@@ -125,8 +126,8 @@ fn holds(rt: &impl Abort, alloc: Global, mode: Mode, row: &(&str, &str, &str)) {
     } = read(alloc, &field, mode).expect(rt, "attributes").faulted;
     let withdraw = in_words(alloc, withdraw).expect(rt, "a text");
     let discard = in_words(alloc, discard).expect(rt, "a text");
-    let both = format!(in alloc; "{withdraw}; {discard}").expect(rt, "a text");
-    assert_eq!(rt; both.as_str(), *answer, "{shows}");
+    let both = text_of(rt, alloc, &[withdraw.as_str(), "; ", discard.as_str()]);
+    is(rt, both.as_str(), *answer, shows);
 }
 
 #[test]
@@ -178,7 +179,7 @@ const TEXTS: [(&str, &str); 9] = [
 /// What is noted has this text.
 fn is_shown(rt: &impl Abort, alloc: Global, faulted: &Faulted, text: &str) {
     let shown = format!(in alloc; "{faulted}").expect(rt, "a text");
-    assert_eq!(rt; shown.as_str(), text);
+    equals(rt, shown.as_str(), text);
 }
 
 /// What is noted of a field has this text.
@@ -245,6 +246,6 @@ fn name_of(kind: u8) -> Option<&'static str> {
 #[test]
 fn each_type_by_name(rt: HostRuntime) {
     for kind in 0..=255 {
-        assert_eq!(rt; attribute_name(kind), name_of(kind), "type {kind}");
+        is_of(&rt, attribute_name(kind), name_of(kind), &("type", kind));
     }
 }

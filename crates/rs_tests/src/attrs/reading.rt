@@ -1,6 +1,7 @@
 //! What fields mean: each type with good and bad values, and the rules that join them.
 
 use super::{octets, put, spelt};
+use crate::common::{equals, is};
 use rs_attrs::{Attrs, Faults, Mode, read};
 use std::alloc::Global;
 use std::process::Abort;
@@ -155,6 +156,15 @@ fn faults_by(names: &str) -> Faults {
     }
 }
 
+/// A row behind its name: a field, what is kept of it, and the faults.
+fn fields_of(row: &str) -> [&str; 3] {
+    let mut parts = row.split('|').skip(1);
+    let field = parts.next().unwrap_or("");
+    let kept = parts.next().unwrap_or("");
+    let kept = if kept.contains("=") { field } else { kept };
+    [field, kept, parts.next().unwrap_or("")]
+}
+
 /// A field is read as what is kept of it, with these faults.
 fn is_read(rt: &impl Abort, alloc: Global, mode: Mode, row: &str, fields: [&str; 3]) {
     let [field, kept, faults] = fields;
@@ -162,19 +172,14 @@ fn is_read(rt: &impl Abort, alloc: Global, mode: Mode, row: &str, fields: [&str;
     let wanted = octets(rt, alloc, kept);
     let parsed = read(alloc, &field, mode).expect(rt, "attributes");
     let spelt = spelt(rt, alloc, &parsed);
-    assert!(rt; spelt == wanted, "{row}");
-    assert!(rt; parsed.faults == faults_by(faults), "{row}");
+    is(rt, spelt, wanted, row);
+    is(rt, parsed.faults, faults_by(faults), row);
 }
 
 /// Each row is read as it says.
 fn are_read(rt: &impl Abort, alloc: Global, mode: Mode, rows: &[&str]) {
     for row in rows {
-        let mut parts = row.split('|').skip(1);
-        let field = parts.next().unwrap_or("");
-        let kept = parts.next().unwrap_or("");
-        let kept = if kept.contains("=") { field } else { kept };
-        let faults = parts.next().unwrap_or("");
-        is_read(rt, alloc, mode, row, [field, kept, faults]);
+        is_read(rt, alloc, mode, row, fields_of(row));
     }
 }
 
@@ -226,7 +231,7 @@ fn aggregators_of_two_octet_peers(rt: HostRuntime) {
 /// The attributes of a field without faults.
 fn faultless(rt: &impl Abort, alloc: Global, field: &[u8], mode: Mode) -> Attrs {
     let parsed = read(alloc, field, mode).expect(rt, "attributes");
-    assert_eq!(rt; parsed.faults, faults_by(""));
+    equals(rt, parsed.faults, faults_by(""));
     parsed.attrs
 }
 
@@ -252,6 +257,6 @@ fn a_path_of_three_full_segments(rt: HostRuntime) {
     let four = full_path(&rt, rt.alloc(), [0x0b, 0xfa], &[0, 0]);
     let of_two = faultless(&rt, rt.alloc(), &two, Mode::Two);
     let of_four = faultless(&rt, rt.alloc(), &four, Mode::Four);
-    assert_eq!(rt; of_four.path_len(), 765);
-    assert!(rt; of_four == of_two);
+    equals(&rt, of_four.path_len(), 765);
+    equals(&rt, of_four, of_two);
 }

@@ -2,6 +2,7 @@
 //! test, and wants no more held between two lines that it prints than two blocks of just the size.
 
 use super::put;
+use crate::common::{equals, is_of, say};
 use rs_attrs::{Attrs, Mode, read};
 use std::alloc::Global;
 use std::process::Abort;
@@ -22,20 +23,20 @@ fn is_zero_or_none(rt: &impl Abort, attrs: &Attrs, kind: u8) {
     let is_of_them = kind >= 33 && kind < 233;
     match attrs.get(kind) {
         Some(attribute) => {
-            assert!(rt; is_of_them, "type {kind}");
-            assert_eq!(rt; attribute.value, [0].as_slice(), "type {kind}");
+            is_of(rt, is_of_them, true, &("type", kind));
+            is_of(rt, attribute.value, [0].as_slice(), &("type", kind));
         }
-        None => assert!(rt; !is_of_them, "type {kind}"),
+        None => is_of(rt, is_of_them, false, &("type", kind)),
     }
 }
 
 #[test]
 fn a_thousand_attributes_of_one_octet(rt: HostRuntime) {
     let field = thousand(&rt, rt.alloc());
-    assert_eq!(rt; field.len(), 4000);
-    println!(rt; "room is counted from here").expect(&rt, "a line");
+    equals(&rt, field.len(), 4000);
+    say(&rt, "room is counted from here");
     let parsed = read(rt.alloc(), &field, Mode::Four).expect(&rt, "attributes");
-    println!(rt; "room is counted to here").expect(&rt, "a line");
+    say(&rt, "room is counted to here");
     for kind in 0..=255 {
         is_zero_or_none(&rt, &parsed.attrs, kind);
     }

@@ -1,6 +1,7 @@
 //! Routes as clients send them, and what is asked of their attributes.
 
 use super::{ROUTE, attrs_of, put, route_with};
+use crate::common::{equals, is_of, is_so};
 use rs_attrs::{
     Attrs, CommunityPattern, LargeCommunityPattern, Mode, Strip, read, size, size_at_most, stripped,
 };
@@ -36,12 +37,12 @@ fn path_of(rt: &impl Abort, alloc: Global, segments: Segments<'_>) -> Attrs {
 
 /// A getter's answer.
 fn gets(rt: &impl Abort, got: Option<u32>, want: Option<u32>) {
-    assert_eq!(rt; got, want);
+    equals(rt, got, want);
 }
 
 /// Whether a path has a number.
 fn has_number(rt: &impl Abort, attrs: &Attrs, number: u32, want: bool) {
-    assert_eq!(rt; attrs.path_has(number), want, "{number}");
+    is_of(rt, attrs.path_has(number), want, &number);
 }
 
 /// The pattern of communities with these parts.
@@ -52,19 +53,19 @@ fn like(high: Option<u32>, low: Option<u32>) -> CommunityPattern {
 /// Whether a community like this is among them.
 fn has_like(rt: &impl Abort, attrs: &Attrs, high: Option<u32>, low: Option<u32>, want: bool) {
     let pattern = like(high, low);
-    assert_eq!(rt; attrs.has_community_like(&pattern), want, "{pattern:?}");
+    is_of(rt, attrs.has_community_like(&pattern), want, &pattern);
 }
 
 /// An attribute of this type is not among them.
 fn lacks(rt: &impl Abort, attrs: &Attrs, kind: u8) {
-    assert!(rt; attrs.get(kind).is_none(), "type {kind}");
+    is_of(rt, attrs.get(kind).is_none(), true, &("type", kind));
 }
 
 #[test]
 fn a_route_of_three_attributes(rt: HostRuntime) {
     let attrs = attrs_of(&rt, rt.alloc(), &ROUTE);
-    assert_eq!(rt; attrs.origin(), Some(0));
-    assert_eq!(rt; attrs.path_len(), 1);
+    equals(&rt, attrs.origin(), Some(0));
+    equals(&rt, attrs.path_len(), 1);
     gets(&rt, attrs.next_hop(), Some(0xc000_020b));
     gets(&rt, attrs.med(), None);
     gets(&rt, attrs.origin_as(), Some(64496));
@@ -77,8 +78,8 @@ fn a_route_of_three_attributes(rt: HostRuntime) {
 /// The first mandatory attribute that a field lacks.
 fn misses(rt: &impl Abort, field: &[u8], alloc: Global, missing: Option<u8>) {
     let attrs = attrs_of(rt, alloc, field);
-    assert_eq!(rt; attrs.missing(), missing);
-    assert_eq!(rt; attrs.has_mandatory(), missing.is_none());
+    equals(rt, attrs.missing(), missing);
+    equals(rt, attrs.has_mandatory(), missing.is_none());
 }
 
 #[test]
@@ -106,10 +107,10 @@ fn the_first_med_counts(rt: HostRuntime) {
 /// An optional attribute has this value; it is transitive and partial, or neither.
 fn holds(rt: &impl Abort, attrs: &Attrs, kind: u8, passes: bool, value: &[u8]) {
     let attribute = attrs.get(kind).expect(rt, "an attribute of the type");
-    assert!(rt; attribute.optional, "type {kind}");
-    assert_eq!(rt; attribute.transitive, passes, "type {kind}");
-    assert_eq!(rt; attribute.partial, passes, "type {kind}");
-    assert_eq!(rt; attribute.value, value, "type {kind}");
+    is_of(rt, attribute.optional, true, &("type", kind));
+    is_of(rt, attribute.transitive, passes, &("type", kind));
+    is_of(rt, attribute.partial, passes, &("type", kind));
+    is_of(rt, attribute.value, value, &("type", kind));
 }
 
 #[test]
@@ -121,8 +122,8 @@ fn unknown_types_with_their_flags(rt: HostRuntime) {
 
 /// How many octets attributes take, and how many at most with each length in two octets.
 fn takes(rt: &impl Abort, attrs: &Attrs, mode: Mode, count: usize, at_most: usize) {
-    assert_eq!(rt; size(attrs, mode), count);
-    assert_eq!(rt; size_at_most(attrs, mode), at_most);
+    equals(rt, size(attrs, mode), count);
+    equals(rt, size_at_most(attrs, mode), at_most);
 }
 
 #[test]
@@ -141,7 +142,7 @@ fn path_is(
     origin: Option<u32>,
     member: Option<u32>,
 ) {
-    assert_eq!(rt; attrs.path_len(), length);
+    equals(rt, attrs.path_len(), length);
     gets(rt, attrs.origin_as(), origin);
     has_number(rt, attrs, 23456, false);
     if let Some(number) = member {
@@ -203,11 +204,7 @@ fn communities_stand_at_each_fourth_octet(rt: HostRuntime) {
 
 /// Whether a large community like this is among them.
 fn has_large(rt: &impl Abort, attrs: &Attrs, pattern: LargeCommunityPattern, want: bool) {
-    assert_eq!(rt;
-        attrs.has_large_community_like(&pattern),
-        want,
-        "{pattern:?}"
-    );
+    is_of(rt, attrs.has_large_community_like(&pattern), want, &pattern);
 }
 
 /// 64496:1:2, 4200000000:0:4294967295.
@@ -252,24 +249,24 @@ fn hash_of(attrs: &Attrs) -> u64 {
 
 /// Attributes that are equal are ordered and hashed so.
 fn are_equal(rt: &impl Abort, left: &Attrs, right: &Attrs) {
-    assert!(rt; left == right);
-    assert_eq!(rt; left.cmp(right), Ordering::Equal);
-    assert_eq!(rt; hash_of(left), hash_of(right));
+    is_so(rt, left == right, "equal");
+    equals(rt, left.cmp(right), Ordering::Equal);
+    equals(rt, hash_of(left), hash_of(right));
 }
 
 /// The order of two sets of attributes is that of the other way round, reversed.
 fn is_ordered(rt: &impl Abort, left: &Attrs, right: &Attrs) {
     let order = left.cmp(right);
-    assert_eq!(rt; order, right.cmp(left).reverse());
-    assert_eq!(rt; left.partial_cmp(right), Some(order));
+    equals(rt, order, right.cmp(left).reverse());
+    equals(rt, left.partial_cmp(right), Some(order));
 }
 
 /// Whether the route with one field behind its own is equal to that with another.
 fn compares(rt: &impl Abort, alloc: Global, left: &[u8], right: &[u8], equal: bool) {
     let left = route_with(rt, alloc, left);
     let right = route_with(rt, alloc, right);
-    assert_eq!(rt; left == right, equal);
-    assert_eq!(rt; left.cmp(&right) == Ordering::Equal, equal);
+    equals(rt, left == right, equal);
+    equals(rt, left.cmp(&right) == Ordering::Equal, equal);
     is_ordered(rt, &left, &right);
 }
 
@@ -306,8 +303,8 @@ fn equal_by_meaning(rt: HostRuntime) {
 
 /// Whether two sets of attributes keep one hash, as they do where they are equal.
 fn keep_one(rt: &impl Abort, left: &Attrs, right: &Attrs, one: bool) {
-    assert_eq!(rt; left == right, one);
-    assert_eq!(rt; left.kept_hash() == right.kept_hash(), one);
+    equals(rt, left == right, one);
+    equals(rt, left.kept_hash() == right.kept_hash(), one);
 }
 
 #[test]
@@ -406,9 +403,9 @@ const L_2_ANY: LargeCommunityPattern = LargeCommunityPattern {
 
 /// A strip leaves just this of attributes, and says whether that is less.
 fn leaves(rt: &impl Abort, alloc: Global, strip: &Strip<'_>, attrs: &Attrs, left: &Attrs) {
-    assert_eq!(rt; strip.changes(attrs), left != attrs, "{strip:?}");
+    is_of(rt, strip.changes(attrs), left != attrs, &strip);
     let outcome = stripped(alloc, attrs, strip).expect(rt, "attributes");
-    assert!(rt; outcome == *left, "{strip:?}");
+    is_of(rt, &outcome, left, strip);
 }
 
 /// What is left of the communities sent; a route without any is left as it is.

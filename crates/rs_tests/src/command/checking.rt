@@ -2,7 +2,7 @@
 
 use super::configuration::{GOOD, MEMBERS, TOP, TWO_FAULTS};
 use super::{Streams, is_printed, put_text};
-use crate::common::is;
+use crate::common::{is, push};
 use rs_check::check_texts;
 use rs_command::Status;
 use rs_texts::{Text, join, read_on};
@@ -35,7 +35,7 @@ fn are_told(
     let mut octets = Vec::new(alloc);
     for (name, text) in files {
         put_text(rt, alloc, &mut names, name);
-        octets.push(Octets(text)).expect(rt, "a text");
+        push(rt, &mut octets, Octets(text));
     }
     let texts = join(alloc, &octets).expect(rt, "a text");
     let streams = Streams::new(alloc);

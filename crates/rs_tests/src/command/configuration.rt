@@ -1,7 +1,7 @@
 //! What the reader of the files of the configuration answers, and what is printed of its faults.
 
 use super::{Streams, is_printed, put_text};
-use crate::common::is;
+use crate::common::{equals, is, push};
 use rs_command::Status;
 use rs_command::configuration::{
     ConfigurationFault, Configured, Unconfigured, Unread, read_configuration,
@@ -62,7 +62,7 @@ fn new_paths<R: Env + Clock + AllocGlobal + Abort>(
     let mut paths = Vec::new(alloc);
     for place in 0..count {
         let path = format!(in alloc; "{}/rs_command_{moment}_{place}.toml", folder.as_str());
-        paths.push(path.expect(rt, "a path")).expect(rt, "a path");
+        push(rt, &mut paths, path.expect(rt, "a path"));
     }
     paths
 }
@@ -189,8 +189,7 @@ fn are_read_at<R: Files + Abort>(rt: &R, alloc: Global, path: &str, count: usize
 #[test]
 fn more_files_than_1024_are_too_many(rt: HostRuntime) {
     let paths = new_paths(&rt, rt.alloc(), 1);
-    assert_eq!(rt; paths.len(), 1);
-    let path = paths[0].as_str();
+    let path = paths.first().expect(&rt, "a path").as_str();
     write_files(&rt, &paths, &[GOOD.as_bytes()]);
     let too_many = Err((ConfigurationFault::TooMany, None));
     are_read_at(&rt, rt.alloc(), path, 1025, too_many);
@@ -228,7 +227,7 @@ fn is_at_fault(
 ) {
     let texts = [Told::Octets(GOOD.as_bytes()), Told::Fails(kind)];
     let read = read_of(read_configuration_from(alloc, &texts));
-    assert_eq!(rt; read, Err((fault, place)));
+    equals(rt, read, Err((fault, place)));
 }
 
 #[test]

@@ -1,7 +1,7 @@
 //! Calls that take no memory. What counts their requests for it stands outside the program:
 //! `tools/plays/without_memory.py` runs these tests, and wants none between two lines that they print.
 
-use super::{CLIENT, Exchange, SENDER, all, attrs, drain, let_go, prefix, some};
+use super::{CLIENT, Exchange, SENDER, all, attrs, drain, is_drained, let_go, prefix, some};
 use crate::common::{from_here, to_here};
 use rs_open::Short;
 use rs_outlet::Outlet;
@@ -48,7 +48,7 @@ fn a_message_behind_two_turns(rt: HostRuntime) {
     outlet.begin();
     to_here(&rt);
     take(&mut outlet);
-    assert!(rt; outlet.is_drained());
+    is_drained(&rt, &outlet);
     let_go(exchange, outlet);
 }
 
@@ -76,7 +76,7 @@ fn a_message_of_a_client_that_took_none(rt: HostRuntime) {
     from_here(&rt);
     take_all(&mut outlet);
     to_here(&rt);
-    assert!(rt; outlet.is_drained());
+    is_drained(&rt, &outlet);
     let_go(exchange, outlet);
 }
 
@@ -94,7 +94,7 @@ fn all_again(rt: HostRuntime) {
     outlet.again();
     take_all(&mut outlet);
     to_here(&rt);
-    assert!(rt; outlet.is_drained());
+    is_drained(&rt, &outlet);
     let_go(exchange, outlet);
 }
 

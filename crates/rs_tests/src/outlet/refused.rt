@@ -3,6 +3,7 @@
 //! one.
 
 use super::{CLIENT, Exchange, all, drain, let_go, prefix, some};
+use crate::common::{equals, is_so, push, say};
 use rs_octets::Prefix;
 use rs_outlet::{Last, Outlet};
 use std::process::Abort;
@@ -15,7 +16,7 @@ const NOW: u32 = 900;
 /// The sender withdraws 50 prefixes from this one on.
 fn withdraw(rt: &impl Abort, exchange: &mut Exchange, first: u32) {
     for n in first..first.saturating_add(50) {
-        assert!(rt; exchange.withdraw(rt, prefix(rt, n)));
+        is_so(rt, exchange.withdraw(rt, prefix(rt, n)), "it was announced");
     }
 }
 
@@ -35,7 +36,7 @@ fn half_told(rt: &impl Abort, before: &Exchange, now: &Exchange) -> Outlet {
 fn listed(rt: &impl Abort, exchange: &Exchange, outlet: &Outlet) -> Vec<Prefix> {
     let mut prefixes = Vec::new(exchange.alloc);
     for (prefix, _) in outlet.routes(&exchange.tables).take(10_000) {
-        prefixes.push(prefix).expect(rt, "a prefix");
+        push(rt, &mut prefixes, prefix);
     }
     prefixes
 }
@@ -49,21 +50,21 @@ fn is_refused(
     other: &Outlet,
     before: &[Prefix],
 ) {
-    assert_eq!(rt; outlet.last(), Last::Refused);
+    equals(rt, outlet.last(), Last::Refused);
     let now = listed(rt, exchange, outlet);
-    assert!(rt; now.as_slice() == before);
-    assert!(rt; outlet.lent() == other.lent());
+    equals(rt, now.as_slice(), before);
+    equals(rt, outlet.lent(), other.lent());
 }
 
 /// Two outlets have answered the same, and have and tell the same routes.
 fn are_alike(rt: &impl Abort, exchange: &Exchange, one: &mut Outlet, other: &mut Outlet) {
-    assert_eq!(rt; one.last(), other.last());
+    equals(rt, one.last(), other.last());
     let of_one = listed(rt, exchange, one);
     let of_other = listed(rt, exchange, other);
-    assert!(rt; of_one == of_other);
+    equals(rt, of_one, of_other);
     let told_one = drain(rt, exchange.alloc, one);
     let told_other = drain(rt, exchange.alloc, other);
-    assert!(rt; told_one == told_other);
+    equals(rt, told_one, told_other);
 }
 
 #[test]
@@ -76,7 +77,7 @@ fn a_refused_turn_changes_nothing_but_last(rt: HostRuntime) {
     let routes = listed(&rt, &now, &outlet);
     now.decides(&rt, &mut other, some(500));
     if now.turn(&rt, &mut outlet).is_err() {
-        println!(rt; "memory was refused to a turn").expect(&rt, "a line");
+        say(&rt, "memory was refused to a turn");
         is_refused(&rt, &now, &outlet, &other, &routes);
         now.decides(&rt, &mut outlet, some(500));
     }

@@ -1,16 +1,15 @@
 //! What clients are told of the same routes, by their rules, by the mode that they speak and by the
 //! longest message that they take; and of 100,000 routes at once.
 
-use super::{CLIENT, Exchange, SENDER, all, attrs, drain, let_go, prefix, some};
-use crate::common::put;
+use super::{CLIENT, Exchange, SENDER, all, attrs, drain, is_drained, let_go, prefix, some};
+use crate::common::{self, equals, is_of, put, shared, text_of};
 use rs_adjin::AdjIns;
-use rs_attrs::{Mode, read};
+use rs_attrs::Mode;
 use rs_octets::Prefix;
 use rs_open::Limit;
 use rs_outlet::Outlet;
 use std::alloc::Global;
 use std::process::Abort;
-use std::sync::Arc;
 
 /// The members of the exchange.
 const A: usize = 0;
@@ -36,30 +35,31 @@ const TAGGED: [u8; 7] = [0xc0, 8, 4, 0xfb, 0xf4, 0, 1];
 /// LARGE_COMMUNITY with 64500:1:64498 alone.
 const TAGGED_LARGE: [u8; 15] = [0xc0, 32, 12, 0, 0, 0xfb, 0xf4, 0, 0, 0, 1, 0, 0, 0xfb, 0xf2];
 
+/// The top and the four members' tables.
+const MEMBER_A: &str = "as = 64500\nidentifier = \"192.0.2.1\"\n\
+[[client]]\nname = \"a\"\nas = 64496\nlisten = \"127.0.0.1:17901\"\npeer = \"192.0.2.11\"\n";
+
+const MEMBERS_B_C: &str =
+    "[[client]]\nname = \"b\"\nas = 64497\nlisten = \"127.0.0.1:17902\"\npeer = \"192.0.2.12\"\n\
+[[client]]\nname = \"c\"\nas = 64498\nlisten = \"127.0.0.1:17903\"\npeer = \"192.0.2.13\"\n";
+
+const MEMBER_D: &str =
+    "[[client]]\nname = \"d\"\nas = 64499\nlisten = \"127.0.0.1:17904\"\npeer = \"192.0.2.14\"\n";
+
 /// Four members, with these lines after what is said of a and of c.
 fn members(rt: &impl Abort, alloc: Global, of_a: &str, of_c: &str) -> String {
-    let text = format!(in alloc;
-        "as = 64500\nidentifier = \"192.0.2.1\"\n\
-        [[client]]\nname = \"a\"\nas = 64496\nlisten = \"127.0.0.1:17901\"\npeer = \"192.0.2.11\"\n{of_a}\
-        [[client]]\nname = \"b\"\nas = 64497\nlisten = \"127.0.0.1:17902\"\npeer = \"192.0.2.12\"\n\
-        [[client]]\nname = \"c\"\nas = 64498\nlisten = \"127.0.0.1:17903\"\npeer = \"192.0.2.13\"\n{of_c}\
-        [[client]]\nname = \"d\"\nas = 64499\nlisten = \"127.0.0.1:17904\"\npeer = \"192.0.2.14\"\n"
-    );
-    text.expect(rt, "a text")
+    text_of(rt, alloc, &[MEMBER_A, of_a, MEMBERS_B_C, of_c, MEMBER_D])
 }
 
 /// 198.51.100.0/24.
 fn announced(rt: &impl Abort) -> Prefix {
-    Prefix::new(0xc633_6400, 24).expect(rt, "a prefix of 24 bits")
+    common::prefix(rt, 0xc633_6400, 24)
 }
 
 impl Exchange {
     /// A member with this BGP Identifier announces that prefix with these attributes.
     fn hear(&mut self, rt: &impl Abort, member: usize, identifier: u32, field: &[u8]) {
-        let attrs = read(self.alloc, field, Mode::Four)
-            .expect(rt, "attributes")
-            .attrs;
-        let set = Arc::new(self.alloc, attrs).expect(rt, "attributes");
+        let set = shared(rt, self.alloc, field);
         assert!(rt; member < self.tables.clients());
         self.tables.begin(member, identifier);
         self.announce(rt, member, announced(rt), &set);
@@ -76,7 +76,7 @@ impl Exchange {
     /// A client is sent so many octets in its first turn.
     fn sends(&self, rt: &impl Abort, client: usize, mode: Mode, limit: Limit, count: usize) {
         let octets = self.sent(rt, client, mode, limit);
-        assert_eq!(rt; octets.len(), count);
+        equals(rt, octets.len(), count);
     }
 
     /// Lets it go in one call.
@@ -86,7 +86,7 @@ impl Exchange {
     fn tells(&self, rt: &impl Abort, client: usize, field: &[u8]) {
         let octets = self.sent(rt, client, Mode::Four, Limit::Short);
         let want = message(rt, self.alloc, field);
-        assert!(rt; octets == want, "client {client}");
+        is_of(rt, octets.as_slice(), want.as_slice(), &("client", client));
     }
 }
 
@@ -191,7 +191,7 @@ fn a_rule_strips_large_communities(rt: HostRuntime) {
 /// What waits are just these octets.
 fn drains(rt: &impl Abort, exchange: &Exchange, outlet: &mut Outlet, want: &[u8]) {
     let octets = drain(rt, exchange.alloc, outlet);
-    assert!(rt; octets.as_slice() == want);
+    equals(rt, octets.as_slice(), want);
 }
 
 /// That prefix is touched.
@@ -210,7 +210,7 @@ fn what_was_told_is_not_told_again(rt: HostRuntime) {
     drains(&rt, &exchange, &mut outlet, &told);
     touch_announced(&rt, &exchange.tables, &mut outlet);
     exchange.decides(&rt, &mut outlet, some(1));
-    assert!(rt; outlet.is_drained());
+    is_drained(&rt, &outlet);
     drains(&rt, &exchange, &mut outlet, &[]);
     let_go(exchange, outlet);
 }
@@ -247,7 +247,7 @@ fn turns_go_on_while_100_000_wait(rt: HostRuntime) {
     // Each prefix is told once, as it is due at last: 49,000 of each of the first two sets in 49
     // messages, and the 2,000 that changed in two.
     let told = drain(&rt, exchange.alloc, &mut outlet);
-    assert_eq!(rt; told.len(), 400_000 + (49 + 49 + 2) * 43);
-    assert!(rt; outlet.is_drained());
+    equals(&rt, told.len(), 400_000 + (49 + 49 + 2) * 43);
+    is_drained(&rt, &outlet);
     let_go(exchange, outlet);
 }

@@ -1,6 +1,6 @@
 //! Prefixes as texts within a target, and as numbers by which a page goes on.
 
-use crate::common::prefix;
+use crate::common::{equals, is, prefix};
 use crate::pages::{found, let_go, server};
 use rs_pages::keys::{key, prefix_at};
 use std::process::Abort;
@@ -24,13 +24,13 @@ const PREFIXES: [(&str, Option<(u32, u8)>); 12] = [
 /// A page goes on from this prefix: its number is that of the prefix, which it spells.
 fn goes_on_from(rt: &impl Abort, at: u64, bits: u32, len: u8) {
     let prefix = prefix(rt, bits, len);
-    assert_eq!(rt; at, key(&prefix));
-    assert!(rt; prefix_at(at) == prefix);
+    equals(rt, at, key(&prefix));
+    equals(rt, prefix_at(at), prefix);
 }
 
 /// The page of a prefix goes on from this number; there is none where the text spells no prefix.
 fn is_read(rt: &impl Abort, text: &str, at: Option<u64>, want: Option<(u32, u8)>) {
-    assert_eq!(rt; at.is_some(), want.is_some(), "{text}");
+    is(rt, at.is_some(), want.is_some(), text);
     if let (Some(at), Some((bits, len))) = (at, want) {
         goes_on_from(rt, at, bits, len);
     }

@@ -1,5 +1,6 @@
 //! The best route where it has no room in a message to the member.
 
+use crate::common::is_of;
 use crate::pages::{announce, page, server};
 use rs_open::Limit;
 use std::alloc::{AllocError, Global};
@@ -47,6 +48,11 @@ fn what_has_no_room_is_said(rt: HostRuntime) {
         let octets = attributes(alloc, *communities).expect(&rt, "memory");
         announce(&rt, alloc, &mut tables.routes, 1, &octets);
         let (text, _) = page(&rt, alloc, &tables, "/why?to=beta&prefix=198.51.101.0/24");
-        assert!(rt; text.contains(want), "{communities}: {text}");
+        is_of(
+            &rt,
+            text.contains(want),
+            true,
+            &(*communities, text.as_str()),
+        );
     }
 }

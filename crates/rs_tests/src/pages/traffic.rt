@@ -1,5 +1,6 @@
 //! What is counted of members' traffic and of turns.
 
+use crate::common::{equals, is_of};
 use crate::pages::{let_go, says_times, server};
 use rs_pages::counts::traffic::Traffic;
 use rs_pages::counts::{Counts, Direction};
@@ -80,7 +81,7 @@ fn counts_are_told(rt: HostRuntime) {
 
 /// So many UPDATEs were counted.
 fn has_updates(rt: &impl Abort, traffic: &Traffic, want: u64, at: usize) {
-    assert_eq!(rt; traffic.updates(), want, "cut at {at}");
+    is_of(rt, traffic.updates(), want, &("cut at", at));
 }
 
 /// How many UPDATEs are whole in the first so many octets.
@@ -103,7 +104,7 @@ fn is_counted_in_two(rt: &impl Abort, at: usize) {
     has_updates(rt, &traffic, whole_in(at), at);
     traffic.take(rest);
     has_updates(rt, &traffic, 3, at);
-    assert_eq!(rt; traffic.octets(), 140);
+    equals(rt, traffic.octets(), 140);
 }
 
 #[test]
@@ -125,5 +126,5 @@ fn nothing_is_counted_behind_a_refused_header(rt: HostRuntime) {
     has_updates(&rt, &traffic, 3, 0);
     let mut next = traffic.begun();
     next.take(&SESSION);
-    assert_eq!(rt; (next.octets(), next.updates()), (439, 6));
+    equals(&rt, (next.octets(), next.updates()), (439, 6));
 }

@@ -174,7 +174,7 @@ ases = [65551]
 
 /// A client of this name stands at this place, or none does.
 fn is_found(rt: &impl Abort, config: &Config, name: &str, place: Option<usize>) {
-    assert_eq!(rt; config.place(name), place);
+    equals(rt, config.place(name), place);
 }
 
 #[test]
@@ -189,47 +189,47 @@ fn clients_are_found_by_their_names(rt: HostRuntime) {
 
 /// The server's AS number is 64500, its BGP Identifier 192.0.2.1 and its Hold Time 90.
 fn is_the_server(rt: &impl Abort, config: &Config) {
-    assert_eq!(rt; config.server_as(), 64500);
-    assert_eq!(rt; config.identifier(), 0xc000_0201);
-    assert_eq!(rt; config.hold(), 90);
+    equals(rt, config.server_as(), 64500);
+    equals(rt, config.identifier(), 0xc000_0201);
+    equals(rt, config.hold(), 90);
 }
 
 /// The server speaks of long messages, of route refresh and of address families, or does not.
 fn speaks_of(rt: &impl Abort, config: &Config, extended: bool, refresh: bool, families: bool) {
-    assert_eq!(rt; config.extended(), extended);
-    assert_eq!(rt; config.refresh(), refresh);
-    assert_eq!(rt; config.multiprotocol(), families);
+    equals(rt, config.extended(), extended);
+    equals(rt, config.refresh(), refresh);
+    equals(rt, config.multiprotocol(), families);
 }
 
 /// A client has this name.
 fn is_named(rt: &impl Abort, config: &Config, client: usize, name: &str) {
     assert!(rt; client < config.clients());
-    assert_eq!(rt; config.name(client), name);
+    equals(rt, config.name(client), name);
 }
 
 /// A client is of this AS.
-fn is_of(rt: &impl Abort, config: &Config, client: usize, number: u32) {
+fn is_in_as(rt: &impl Abort, config: &Config, client: usize, number: u32) {
     assert!(rt; client < config.clients());
-    assert_eq!(rt; config.client_as(client), number);
+    equals(rt, config.client_as(client), number);
 }
 
 /// The server listens for a client at this address and port, to which the client comes from its own.
 fn is_reached(rt: &impl Abort, config: &Config, client: usize, listen: (u32, u16), peer: u32) {
     assert!(rt; client < config.clients());
-    assert_eq!(rt; config.listen(client), listen);
-    assert_eq!(rt; config.peer(client), peer);
+    equals(rt, config.listen(client), listen);
+    equals(rt, config.peer(client), peer);
 }
 
 /// A client may announce so many prefixes, or any number.
 fn is_limited(rt: &impl Abort, config: &Config, client: usize, limit: Option<u32>) {
     assert!(rt; client < config.clients());
-    assert_eq!(rt; config.limit(client), limit);
+    equals(rt, config.limit(client), limit);
 }
 
 #[test]
 fn the_four_members_are_read(rt: HostRuntime) {
     let config = read(&rt, rt.alloc(), FOUR_MEMBERS);
-    assert_eq!(rt; config.clients(), 4);
+    equals(&rt, config.clients(), 4);
     is_the_server(&rt, &config);
     speaks_of(&rt, &config, false, false, false);
     for (client, name, number) in [
@@ -239,7 +239,7 @@ fn the_four_members_are_read(rt: HostRuntime) {
         (3, "d", 64499),
     ] {
         is_named(&rt, &config, client, name);
-        is_of(&rt, &config, client, number);
+        is_in_as(&rt, &config, client, number);
     }
     is_reached(&rt, &config, 3, (0x7f00_0001, 17904), 0xc000_020e);
     let_go(config);
@@ -248,12 +248,12 @@ fn the_four_members_are_read(rt: HostRuntime) {
 #[test]
 fn the_small_example_is_read(rt: HostRuntime) {
     let config = read(&rt, rt.alloc(), SMALL);
-    assert_eq!(rt; config.clients(), 2);
+    equals(&rt, config.clients(), 2);
     is_the_server(&rt, &config);
     speaks_of(&rt, &config, false, false, true);
     is_named(&rt, &config, 0, "alpha");
     is_named(&rt, &config, 1, "beta");
-    is_of(&rt, &config, 1, 64497);
+    is_in_as(&rt, &config, 1, 64497);
     is_reached(&rt, &config, 1, (0x7f00_0001, 17902), 0x7f00_0001);
     is_limited(&rt, &config, 1, None);
     let_go(config);

@@ -75,8 +75,7 @@ const BEHIND_THE_FIRST_KEYS: [(&str, &str); 20] = [
 
 /// What stands behind the first two keys is answered by this.
 fn behind_is_answered(rt: &impl Abort, alloc: Global, rest: &str, want: &str) {
-    let text = format!(in alloc; "{TOP}{rest}").expect(rt, "a text");
-    is_answered(rt, alloc, text.as_str(), want);
+    are_answered(rt, alloc, &[TOP, rest], want);
 }
 
 #[test]
@@ -100,14 +99,13 @@ fn ones(rt: &impl Abort, alloc: Global, count: u32) -> String {
 
 /// A first client with this list is answered by this.
 fn list_is_answered(rt: &impl Abort, alloc: Global, list: &str, of: &str, want: &str) {
-    let rest = format!(in alloc; "{CLIENT}{list} = [{of}]\n").expect(rt, "a text");
-    behind_is_answered(rt, alloc, rest.as_str(), want);
+    are_answered(rt, alloc, &[TOP, CLIENT, list, " = [", of, "]\n"], want);
 }
 
 /// A list that is too long, and lists of communities that are, in a rule of it.
 fn list_is_too_long(rt: &impl Abort, alloc: Global, list: &str) {
     let ones = ones(rt, alloc, 65);
-    let want = format!(in alloc; "too many client 1 {list}").expect(rt, "a text");
+    let want = text_of(rt, alloc, &["too many client 1 ", list]);
     list_is_answered(rt, alloc, list, ones.as_str(), want.as_str());
     strip_is_too_long(rt, alloc, list, "strip", ones.as_str());
     strip_is_too_long(rt, alloc, list, "strip_large", ones.as_str());
@@ -115,24 +113,27 @@ fn list_is_too_long(rt: &impl Abort, alloc: Global, list: &str) {
 
 /// A rule of a list takes away these, which are too many.
 fn strip_is_too_long(rt: &impl Abort, alloc: Global, list: &str, key: &str, ones: &str) {
-    let rule = format!(in alloc; "{{ action = \"drop\", {key} = [{ones}] }}").expect(rt, "a text");
-    let want = format!(in alloc; "too many client 1 {list} 1 {key}").expect(rt, "a text");
+    let rule = text_of(
+        rt,
+        alloc,
+        &["{ action = \"drop\", ", key, " = [", ones, "] }"],
+    );
+    let want = text_of(rt, alloc, &["too many client 1 ", list, " 1 ", key]);
     list_is_answered(rt, alloc, list, rule.as_str(), want.as_str());
 }
 
 #[test]
 fn arrays_that_are_too_long(rt: HostRuntime) {
     let ones = ones(&rt, rt.alloc(), 513);
-    let clients = format!(in rt.alloc(); "client = [{ones}]\n").expect(&rt, "a text");
-    behind_is_answered(&rt, rt.alloc(), clients.as_str(), "too many client");
+    let parts = [TOP, "client = [", ones.as_str(), "]\n"];
+    are_answered(&rt, rt.alloc(), &parts, "too many client");
     list_is_too_long(&rt, rt.alloc(), "import");
     list_is_too_long(&rt, rt.alloc(), "export");
 }
 
 /// What stands behind a first client is answered by this.
 fn more_is_answered(rt: &impl Abort, alloc: Global, rest: &str, want: &str) {
-    let rest = format!(in alloc; "{CLIENT}{rest}").expect(rt, "a text");
-    behind_is_answered(rt, alloc, rest.as_str(), want);
+    are_answered(rt, alloc, &[TOP, CLIENT, rest], want);
 }
 
 /// What stands behind a first client, each with its fault: the clients' keys before any list, and an import
@@ -165,7 +166,7 @@ fn faults_come_in_order(rt: HostRuntime) {
 /// A fault's text stands in front of what was written before.
 fn is_in_front(rt: &impl Abort, fault: &ConfigFault, out: &mut [u8; 96], want: &str) {
     let len = fault.write(out);
-    assert_eq!(rt; &out[..len], want.as_bytes());
+    equals(rt, &out[..len], want.as_bytes());
 }
 
 #[test]
@@ -174,7 +175,7 @@ fn the_longest_text_fits(rt: HostRuntime) {
         table: Table::Rule(usize::MAX, List::Export, usize::MAX),
         key: Key::NextHopIsPeer,
     };
-    let mut out = [b'.'; 96];
+    let mut out = BLANK;
     let want = "bad value client 18446744073709551615 export 18446744073709551615 next_hop_is_peer";
     is_in_front(&rt, &ConfigFault::BadValue(place), &mut out, want);
     let entry = Place {
@@ -187,7 +188,7 @@ fn the_longest_text_fits(rt: HostRuntime) {
 
 /// What is shown is this text.
 fn is_shown(rt: &impl Abort, shown: Result<String, AllocError>, want: &str) {
-    assert_eq!(rt; shown.expect(rt, "a text").as_str(), want);
+    equals(rt, shown.expect(rt, "a text").as_str(), want);
 }
 
 #[test]

@@ -55,8 +55,8 @@ const PREFIXES: [(&str, u32, u8, bool); 27] = [
 
 /// A list with these entries under a key.
 fn listed(rt: &impl Abort, alloc: Global, key: &str, entries: &str) -> String {
-    let text = format!(in alloc; "[[list]]\nname = \"l\"\n{key} = [{entries}]\n");
-    text.expect(rt, "a text")
+    let name = "[[list]]\nname = \"l\"\n";
+    text_of(rt, alloc, &[name, key, " = [", entries, "]\n"])
 }
 
 /// By this list and a rule with this test, on import and on export, a route is dropped where it is in the list.
@@ -265,8 +265,7 @@ const FAULTS: [(&str, &str); 36] = [
 
 /// What stands at the top besides a client is answered by this.
 fn top_is_answered(rt: &impl Abort, alloc: Global, lists: &str, want: &str) {
-    let text = format!(in alloc; "{TOP}{lists}{CLIENT}").expect(rt, "a text");
-    is_answered(rt, alloc, text.as_str(), want);
+    are_answered(rt, alloc, &[TOP, lists, CLIENT], want);
 }
 
 #[test]
@@ -337,14 +336,14 @@ const NAMED: &str = "[[list]]\nname = \"p\"\nprefixes = [\"10.0.0.0/8\"]\n\
 
 /// A rule beside both lists is answered by this.
 fn rule_is_answered(rt: &impl Abort, alloc: Global, rule: &str, want: &str) {
-    let text = format!(in alloc; "{TOP}{NAMED}{CLIENT}import = [{{ {rule} }}]\n");
-    is_answered(rt, alloc, text.expect(rt, "a text").as_str(), want);
+    let parts = [TOP, NAMED, CLIENT, "import = [{ ", rule, " }]\n"];
+    are_answered(rt, alloc, &parts, want);
 }
 
 /// A list without a name before a client with an empty rule, and this behind them, are answered by this.
 fn nameless_is_answered(rt: &impl Abort, alloc: Global, behind: &str, want: &str) {
-    let text = format!(in alloc; "{TOP}[[list]]\n{CLIENT}import = [{{}}]\n{behind}");
-    is_answered(rt, alloc, text.expect(rt, "a text").as_str(), want);
+    let parts = [TOP, "[[list]]\n", CLIENT, "import = [{}]\n", behind];
+    are_answered(rt, alloc, &parts, want);
 }
 
 #[test]

@@ -1,7 +1,7 @@
 //! Which routes a rule matches: prefixes with their lengths, and what attributes say.
 
 use super::routes::{COLOURED, ELSEWHERE, NOWHERE, Route, SET, SET_FIRST};
-use crate::common::{ROUTE, prefix};
+use crate::common::{ROUTE, prefix, text_of};
 use std::alloc::Global;
 use std::process::Abort;
 
@@ -70,7 +70,7 @@ pub(super) fn left(matches: bool) -> Option<u32> {
 
 /// A rule with this test, which drops.
 pub(super) fn drops(rt: &impl Abort, alloc: Global, test: &str) -> String {
-    format!(in alloc; "{{ {test}, action = \"drop\" }}").expect(rt, "a text")
+    text_of(rt, alloc, &["{ ", test, ", action = \"drop\" }"])
 }
 
 #[test]

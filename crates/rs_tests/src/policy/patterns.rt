@@ -90,29 +90,46 @@ const OF_THE_RECEIVER: [(u32, &str, &[u8], bool); 16] = [
 fn is_tested_for(rt: &impl Abort, alloc: Global, row: &(u32, &str, &[u8], bool)) {
     let (number, test, octets, matches) = *row;
     let rule = drops(rt, alloc, test);
-    let client = format!(in alloc;
-        "[[client]]\nname = \"b\"\nas = {number}\nlisten = \"127.0.0.1:17902\"\npeer = \"192.0.2.12\"\n"
-    );
-    let client = client.expect(rt, "a text");
-    let text = format!(in alloc; "{TOP}{CLIENT}{client}export = [{rule}]\n").expect(rt, "a text");
-    is_sent(rt, alloc, text.as_str(), octets, left(matches));
-    let text = format!(in alloc;
-        "{TOP}[[rules]]\nname = \"r\"\nrules = [{rule}]\n{CLIENT}{client}export = [{{ use = \"r\" }}]\n"
-    );
-    is_sent(
-        rt,
-        alloc,
-        text.expect(rt, "a text").as_str(),
-        octets,
-        left(matches),
-    );
+    let client = client_b(rt, alloc, number);
+    let parts = [
+        TOP,
+        CLIENT,
+        client.as_str(),
+        "export = [",
+        rule.as_str(),
+        "]\n",
+    ];
+    is_sent(rt, alloc, &parts, octets, left(matches));
+    let parts = [
+        TOP,
+        NAMED,
+        rule.as_str(),
+        "]\n",
+        CLIENT,
+        client.as_str(),
+        USED,
+    ];
+    is_sent(rt, alloc, &parts, octets, left(matches));
 }
 
-/// By this configuration a route of a with these attributes goes to b with this preference, or not at all.
-fn is_sent(rt: &impl Abort, alloc: Global, text: &str, octets: &[u8], want: Option<u32>) {
+/// Rules of this name, and a list that uses them.
+const NAMED: &str = "[[rules]]\nname = \"r\"\nrules = [";
+
+const USED: &str = "export = [{ use = \"r\" }]\n";
+
+/// Client b, of this AS.
+fn client_b(rt: &impl Abort, alloc: Global, number: u32) -> String {
+    let text = format!(in alloc;
+        "[[client]]\nname = \"b\"\nas = {number}\nlisten = \"127.0.0.1:17902\"\npeer = \"192.0.2.12\"\n"
+    );
+    text.expect(rt, "a text")
+}
+
+/// By the configuration of these parts a route of a with these attributes goes to b with this preference, or not at all.
+fn is_sent(rt: &impl Abort, alloc: Global, parts: &[&str], octets: &[u8], want: Option<u32>) {
     let route = Route::spelt(rt, alloc, octets);
-    let config = read(rt, alloc, text);
-    assert_eq!(rt; route.preference(rt, &config), want, "by {text}");
+    let config = read_parts(rt, alloc, parts);
+    is_of(rt, route.preference(rt, &config), want, &parts);
     let_go(config);
     route.let_go();
 }
@@ -187,7 +204,7 @@ const TAKEN_LARGE: [(&str, &str, &[u8]); 7] = [
 /// A rule that passes, and takes this away.
 fn passes(rt: &impl Abort, alloc: Global, strip: &str) -> String {
     let comma = if strip.is_empty() { "" } else { ", " };
-    format!(in alloc; "{{ action = \"pass\"{comma}{strip} }}").expect(rt, "a text")
+    text_of(rt, alloc, &["{ action = \"pass\"", comma, strip, " }"])
 }
 
 /// By these rules a route with these attributes is left with `ROUTE` and these octets behind it.
@@ -200,7 +217,7 @@ fn is_left(rt: &impl Abort, alloc: Global, octets: &[u8], row: &(&str, &str, &[u
     let (_, strip) = route.passed(rt, &config);
     let found = stripped(alloc, &route.attrs, &strip).expect(rt, "attributes");
     let want = route_with(rt, alloc, rest);
-    assert!(rt; found == want, "import {import}, export {export}");
+    is_of(rt, found, want, &(import, export));
     let_go(config);
     route.let_go();
 }
@@ -242,25 +259,30 @@ const WITH_PEER: [(&str, &str); 8] = [
 /// A rule is good in an export list and in rules that others use there, and has a fault at this key in an import list; such
 /// a list doesn't find the rules.
 fn goes_out_alone(rt: &impl Abort, alloc: Global, rule: &str, key: &str) {
-    let text = format!(in alloc; "{TOP}{CLIENT}export = [{{ {rule} }}]\n").expect(rt, "a text");
-    is_answered(rt, alloc, text.as_str(), "good");
-    let text = format!(in alloc; "{TOP}{CLIENT}import = [{{ {rule} }}]\n").expect(rt, "a text");
-    let want = format!(in alloc; "bad value client 1 import 1 {key}").expect(rt, "a text");
-    is_answered(rt, alloc, text.as_str(), want.as_str());
-    let shared = format!(in alloc;
-        "[[rules]]\nname = \"r\"\nrules = [{{ action = \"drop\" }}, {{ {rule} }}]\n[[rules]]\nname = \"s\"\nrules = []\n"
-    );
-    let shared = shared.expect(rt, "a text");
-    uses_are_answered(rt, alloc, shared.as_str());
+    list_is_answered(rt, alloc, "export", rule, "good");
+    let want = text_of(rt, alloc, &["bad value client 1 import 1 ", key]);
+    list_is_answered(rt, alloc, "import", rule, want.as_str());
+    let shared = text_of(rt, alloc, &[FRONT_OF_SHARED, rule, REST_OF_SHARED]);
+    uses_are_answered(rt, alloc, "export", shared.as_str(), "good");
+    let want = "bad value client 1 import 2 use";
+    uses_are_answered(rt, alloc, "import", shared.as_str(), want);
 }
 
-/// Of these rules an export list may use both, an import list only the second.
-fn uses_are_answered(rt: &impl Abort, alloc: Global, shared: &str) {
-    let uses = "[{ use = \"s\" }, { use = \"r\" }]";
-    let text = format!(in alloc; "{TOP}{shared}{CLIENT}export = {uses}\n").expect(rt, "a text");
-    is_answered(rt, alloc, text.as_str(), "good");
-    let text = format!(in alloc; "{TOP}{shared}{CLIENT}import = {uses}\n").expect(rt, "a text");
-    is_answered(rt, alloc, text.as_str(), "bad value client 1 import 2 use");
+/// Rules `r`, of which this is the second one, and rules `s`.
+const FRONT_OF_SHARED: &str = "[[rules]]\nname = \"r\"\nrules = [{ action = \"drop\" }, { ";
+
+const REST_OF_SHARED: &str = " }]\n[[rules]]\nname = \"s\"\nrules = []\n";
+
+/// A list of this rule is answered by this.
+fn list_is_answered(rt: &impl Abort, alloc: Global, list: &str, rule: &str, want: &str) {
+    let parts = [TOP, CLIENT, list, " = [{ ", rule, " }]\n"];
+    are_answered(rt, alloc, &parts, want);
+}
+
+/// A list that uses `s` and then `r` is answered by this.
+fn uses_are_answered(rt: &impl Abort, alloc: Global, list: &str, shared: &str, want: &str) {
+    let uses = " = [{ use = \"s\" }, { use = \"r\" }]\n";
+    are_answered(rt, alloc, &[TOP, shared, CLIENT, list, uses], want);
 }
 
 #[test]

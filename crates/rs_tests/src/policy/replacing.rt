@@ -66,14 +66,14 @@ const SECONDS: [(&str, &str); 5] = [
 /// Octets in place of a configuration are answered by this: "good", or the text that their fault writes.
 fn is_replaced(rt: &impl Abort, config: &Config, alloc: Global, octets: &[u8], want: &str) {
     match config.replacement(alloc, octets).err() {
-        None => assert_eq!(rt; "good", want),
+        None => equals(rt, "good", want),
         Some(fault) => is_refused(rt, &fault, want),
     }
 }
 
 /// A fault writes this text.
 fn is_refused(rt: &impl Abort, fault: &RulesFault, want: &str) {
-    let mut out = [b'.'; 96];
+    let mut out = BLANK;
     let len = fault.write(&mut out);
     is_written(rt, &out, len, want);
 }
@@ -86,20 +86,19 @@ fn top_is_replaced(
     row: &(&str, &str, &str, &str),
 ) {
     let (top, first, second, want) = *row;
-    let text = format!(in alloc; "{TOP}{top}{CLIENT}{first}{OTHER}{second}").expect(rt, "a text");
+    let text = text_of(rt, alloc, &[TOP, top, CLIENT, first, OTHER, second]);
     is_replaced(rt, config, alloc, text.as_bytes(), want);
 }
 
 /// Another second client.
 fn second_is_replaced(rt: &impl Abort, config: &Config, alloc: Global, second: &str, want: &str) {
-    let text = format!(in alloc; "{TOP}{CLIENT}[[client]]\n{second}").expect(rt, "a text");
+    let text = text_of(rt, alloc, &[TOP, CLIENT, "[[client]]\n", second]);
     is_replaced(rt, config, alloc, text.as_bytes(), want);
 }
 
 /// The configuration of both clients, as it runs.
 fn running(rt: &impl Abort, alloc: Global) -> Config {
-    let text = format!(in alloc; "{TOP}{CLIENT}{OTHER}").expect(rt, "a text");
-    read(rt, alloc, text.as_str())
+    read_parts(rt, alloc, &[TOP, CLIENT, OTHER])
 }
 
 #[test]

@@ -36,16 +36,25 @@ pub(super) fn route_with(rt: &impl Abort, alloc: Global, rest: &[u8]) -> Attrs {
     let mut octets = Vec::new(alloc);
     put(rt, &mut octets, &ROUTE);
     put(rt, &mut octets, rest);
-    attrs(alloc, &octets).expect(rt, "attributes")
+    attrs(rt, alloc, &octets)
 }
 
 /// A configuration of a and b with this at its top, in a's import list and in b's export list.
 pub(super) fn config(rt: &impl Abort, alloc: Global, rules: (&str, &str, &str)) -> Config {
     let (top, import, export) = rules;
-    let text = format!(in alloc;
-        "{TOP}{top}{CLIENT}import = [{import}]\n{OTHER}export = [{export}]\n"
-    );
-    read(rt, alloc, text.expect(rt, "a text").as_str())
+    let parts = [
+        TOP,
+        top,
+        CLIENT,
+        "import = [",
+        import,
+        "]\n",
+        OTHER,
+        "export = [",
+        export,
+        "]\n",
+    ];
+    read_parts(rt, alloc, &parts)
 }
 
 /// The preference with which a route is passed.
@@ -67,7 +76,7 @@ impl Route {
     /// 198.51.100.0/24 with attributes that are spelt so.
     pub(super) fn spelt(rt: &impl Abort, alloc: Global, octets: &[u8]) -> Route {
         let prefix = prefix(rt, 0xc633_6400, 24);
-        let attrs = attrs(alloc, octets).expect(rt, "attributes");
+        let attrs = attrs(rt, alloc, octets);
         Route { prefix, attrs }
     }
 
@@ -90,7 +99,7 @@ impl Route {
     /// The preference with which it goes to b, or None where it is dropped.
     pub(super) fn preference(&self, rt: &impl Abort, config: &Config) -> Option<u32> {
         let found = preference_of(&self.judged(rt, config));
-        assert_eq!(rt; preference_of(&self.judged_by_note(rt, config)), found);
+        equals(rt, preference_of(&self.judged_by_note(rt, config)), found);
         found
     }
 
@@ -101,7 +110,7 @@ impl Route {
             Verdict::Pass { preference, strip } => Some((preference, strip)),
         };
         let passed = passed.expect(rt, "a route that goes to b");
-        assert_eq!(rt; preference_of(&self.judged(rt, config)), Some(passed.0));
+        equals(rt, preference_of(&self.judged(rt, config)), Some(passed.0));
         passed
     }
 
@@ -115,8 +124,7 @@ impl Route {
     ) {
         let config = config(rt, alloc, rules);
         let found = self.preference(rt, &config);
-        let (top, import, export) = rules;
-        assert_eq!(rt; found, want, "at {top}, import {import}, export {export}");
+        is_of(rt, found, want, &rules);
         let_go(config);
     }
 }
@@ -222,21 +230,19 @@ impl Route {
         lists: [&[CommunityPattern]; 2],
     ) {
         let (found, strip) = self.passed(rt, config);
-        assert_eq!(rt; found, preference);
+        equals(rt, found, preference);
         let [sender, receiver] = strip.communities;
-        assert_eq!(rt; sender, lists[0]);
-        assert_eq!(rt; receiver, lists[1]);
-        assert!(rt; !strip.all_communities);
-        assert!(rt; !strip.all_large);
+        equals(rt, sender, lists[0]);
+        equals(rt, receiver, lists[1]);
+        equals(rt, (strip.all_communities, strip.all_large), (false, false));
     }
 
     /// By these rules it goes with preference 100, and all communities are taken away, but not all large ones.
     fn loses_all(&self, rt: &impl Abort, alloc: Global, import: &str, export: &str) {
         let config = config(rt, alloc, ("", import, export));
         let (preference, strip) = self.passed(rt, &config);
-        assert_eq!(rt; preference, 100);
-        assert!(rt; strip.all_communities);
-        assert!(rt; !strip.all_large);
+        equals(rt, preference, 100);
+        equals(rt, (strip.all_communities, strip.all_large), (true, false));
         let_go(config);
     }
 }

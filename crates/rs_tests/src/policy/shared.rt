@@ -65,16 +65,22 @@ const FAULTS: [(&str, &str); 20] = [
 #[test]
 fn faults_of_shared_rules(rt: HostRuntime) {
     for (shared, want) in &FAULTS {
-        let text = format!(in rt.alloc(); "{TOP}{shared}{CLIENT}").expect(&rt, "a text");
-        is_answered(&rt, rt.alloc(), text.as_str(), want);
+        are_answered(&rt, rt.alloc(), &[TOP, shared, CLIENT], want);
     }
-    // after the clients, before their rules
-    let text = format!(in rt.alloc(); "{TOP}[[rules]]\n{CLIENT}import = [{{}}]\n[[client]]\n");
-    let text = text.expect(&rt, "a text");
-    is_answered(&rt, rt.alloc(), text.as_str(), "missing client 2 name");
-    let text = format!(in rt.alloc(); "{TOP}[[rules]]\n{CLIENT}import = [{{}}]\n");
-    let text = text.expect(&rt, "a text");
-    is_answered(&rt, rt.alloc(), text.as_str(), "missing rules 1 name");
+}
+
+/// Rules without a name before a client with an empty rule, and this behind them, are answered by this.
+fn is_answered_before(rt: &impl Abort, alloc: Global, behind: &str, want: &str) {
+    let parts = [TOP, "[[rules]]\n", CLIENT, "import = [{}]\n", behind];
+    are_answered(rt, alloc, &parts, want);
+}
+
+#[test]
+fn faults_of_shared_rules_come_behind_clients(rt: HostRuntime) {
+    let client = "[[client]]\n";
+    is_answered_before(&rt, rt.alloc(), client, "missing client 2 name");
+    // before the rules of clients
+    is_answered_before(&rt, rt.alloc(), "", "missing rules 1 name");
 }
 
 /// Tables in a client's list beside rules `r`, each with its fault.
@@ -92,12 +98,16 @@ const USES: [(&str, &str); 6] = [
 
 const SHARED: &str = "[[rules]]\nname = \"r\"\nrules = [{ action = \"drop\" }]\n";
 
+/// A table in a client's list beside these rules is answered by this.
+fn table_is_answered(rt: &impl Abort, alloc: Global, table: &str, want: &str) {
+    let parts = [TOP, SHARED, CLIENT, "import = [{ ", table, " }]\n"];
+    are_answered(rt, alloc, &parts, want);
+}
+
 #[test]
 fn rules_that_use_others(rt: HostRuntime) {
     for (table, want) in &USES {
-        let text = format!(in rt.alloc(); "{TOP}{SHARED}{CLIENT}import = [{{ {table} }}]\n");
-        let text = text.expect(&rt, "a text");
-        is_answered(&rt, rt.alloc(), text.as_str(), want);
+        table_is_answered(&rt, rt.alloc(), table, want);
     }
 }
 
@@ -139,6 +149,10 @@ const WRITTEN_OUT: [(&str, &str, Option<u32>); 8] = [
     ),
 ];
 
+/// Other rules, and the front of `r`.
+const BEFORE: &str =
+    "[[rules]]\nname = \"q\"\nrules = [{ action = \"drop\" }]\n[[rules]]\nname = \"r\"\nrules = [";
+
 /// These rules, from the import list and from the export list, pass the route with this preference or drop it.
 fn goes_by_use(
     rt: &impl Abort,
@@ -148,10 +162,7 @@ fn goes_by_use(
     list: &str,
     want: Option<u32>,
 ) {
-    let shared = format!(in alloc;
-        "[[rules]]\nname = \"q\"\nrules = [{{ action = \"drop\" }}]\n[[rules]]\nname = \"r\"\nrules = [{rules}]\n"
-    );
-    let shared = shared.expect(rt, "a text");
+    let shared = text_of(rt, alloc, &[BEFORE, rules, "]\n"]);
     route.goes(rt, alloc, (shared.as_str(), list, ""), want);
     route.goes(rt, alloc, (shared.as_str(), "", list), want);
 }

@@ -412,8 +412,7 @@ const OF_PATTERNS: [(&str, &str, &str); 29] = [
 
 /// A second client with these keys is answered by this.
 fn second_is_answered(rt: &impl Abort, alloc: Global, rest: &str, want: &str) {
-    let text = format!(in alloc; "{TOP}{CLIENT}[[client]]\n{rest}").expect(rt, "a text");
-    is_answered(rt, alloc, text.as_str(), want);
+    are_answered(rt, alloc, &[TOP, CLIENT, "[[client]]\n", rest], want);
 }
 
 #[test]
@@ -423,20 +422,19 @@ fn faults_in_a_client(rt: HostRuntime) {
     }
 }
 
-/// A configuration with this rule in one of its lists, after a good rule, and before the faults of a later client.
-fn with_rule(rt: &impl Abort, alloc: Global, list: &str, rule: &str) -> String {
-    let text = format!(in alloc;
-        "{TOP}{CLIENT}{list} = [{{ action = \"drop\" }}, {{ {rule} }}]\n{OTHER}import = 1\n"
-    );
-    text.expect(rt, "a text")
+/// A configuration with this rule in one of its lists, after a good rule, and before the faults of a later client,
+/// is answered by this.
+fn rule_is_answered(rt: &impl Abort, alloc: Global, list: &str, rule: &str, want: &str) {
+    let (good, behind) = (" = [{ action = \"drop\" }, { ", " }]\n");
+    let parts = [TOP, CLIENT, list, good, rule, behind, OTHER, "import = 1\n"];
+    are_answered(rt, alloc, &parts, want);
 }
 
 /// A rule of this list has a fault of this cause at this key.
 fn rule_is_faulty(rt: &impl Abort, alloc: Global, list: &str, row: &(&str, &str, &str)) {
     let (rule, cause, key) = *row;
-    let text = with_rule(rt, alloc, list, rule);
-    let want = format!(in alloc; "{cause} client 1 {list} 2 {key}").expect(rt, "a text");
-    is_answered(rt, alloc, text.as_str(), want.as_str());
+    let want = text_of(rt, alloc, &[cause, " client 1 ", list, " 2 ", key]);
+    rule_is_answered(rt, alloc, list, rule, want.as_str());
 }
 
 /// A rule of either list has the fault.

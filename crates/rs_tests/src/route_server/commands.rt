@@ -1,5 +1,6 @@
 //! What the operator commands of a client's session.
 
+use crate::common::is_of;
 use crate::route_server::exchange::{
     A, B, Exchange, KEEPALIVE, NO_ROUTE, OPEN_A, OPEN_B, OPEN_SERVER, ROUTE, server,
 };
@@ -23,7 +24,7 @@ fn back_at_9(rt: &impl Abort) -> ShutdownText {
 /// The last session of a client ended so, or none did.
 fn has_ended(rt: &impl Abort, exchange: &Exchange, c: usize, want: Option<Ending>) {
     assert!(rt; c < exchange.core.clients());
-    assert_eq!(rt; exchange.core.ending(c), want, "client {c}");
+    is_of(rt, exchange.core.ending(c), want, &("client", c));
 }
 
 #[test]

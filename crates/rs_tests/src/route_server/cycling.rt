@@ -1,6 +1,6 @@
 //! A member that announces and withdraws ever new prefixes.
 
-use crate::common::put;
+use crate::common::{equals, is_so, put};
 use crate::route_server::exchange::{A, B, Exchange};
 use std::alloc::Global;
 use std::process::Abort;
@@ -74,10 +74,16 @@ fn withdraw(rt: &impl Abort, exchange: &mut Exchange, first: u32) {
 fn cycle(rt: &impl Abort, exchange: &mut Exchange, first: u32) {
     announce(rt, exchange, first);
     exchange.turn();
-    assert!(rt; !exchange.sent(rt, B, 5_000).is_empty());
+    is_so(rt, !exchange.sent(rt, B, 5_000).is_empty(), "b is told");
     withdraw(rt, exchange, first);
     exchange.turn();
     exchange.sent(rt, B, 5_000);
+}
+
+/// The member's session goes on.
+fn is_established(rt: &impl Abort, exchange: &Exchange) {
+    assert!(rt; A < exchange.core.clients());
+    is_so(rt, exchange.core.is_established(A), "established");
 }
 
 #[test]
@@ -88,26 +94,25 @@ fn cycled_prefixes_make_no_table_grow(rt: HostRuntime) {
         cycle(&rt, &mut exchange, first);
     }
     // Two rounds' prefixes may have numbers at once: a number is given up after the turn.
-    assert!(rt; exchange.core.rows() <= 2 * EACH as usize);
-    assert!(rt; A < exchange.core.clients());
-    assert!(rt; exchange.core.is_established(A));
+    is_so(&rt, exchange.core.rows() <= 2 * EACH as usize, "few rows");
+    is_established(&rt, &exchange);
     exchange.let_go();
 }
 
 #[test]
 fn each_update_is_a_set_of_attributes(rt: HostRuntime) {
     let mut exchange = Exchange::of_both(&rt, rt.alloc(), "");
-    assert_eq!(rt; exchange.core.attribute_sets(), 0);
+    equals(&rt, exchange.core.attribute_sets(), 0);
     announce(&rt, &mut exchange, 0x0a_0000);
-    assert_eq!(rt; exchange.core.attribute_sets(), 1);
+    equals(&rt, exchange.core.attribute_sets(), 1);
     announce(&rt, &mut exchange, 0x0b_0000);
-    assert_eq!(rt; exchange.core.attribute_sets(), 2);
+    equals(&rt, exchange.core.attribute_sets(), 2);
     // What is announced as it stands keeps its set.
     announce(&rt, &mut exchange, 0x0b_0000);
-    assert_eq!(rt; exchange.core.attribute_sets(), 2);
+    equals(&rt, exchange.core.attribute_sets(), 2);
     withdraw(&rt, &mut exchange, 0x0b_0000);
-    assert_eq!(rt; exchange.core.attribute_sets(), 1);
+    equals(&rt, exchange.core.attribute_sets(), 1);
     announce(&rt, &mut exchange, 0x0c_0000);
-    assert_eq!(rt; exchange.core.attribute_sets(), 2);
+    equals(&rt, exchange.core.attribute_sets(), 2);
     exchange.let_go();
 }

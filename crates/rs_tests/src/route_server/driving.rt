@@ -1,5 +1,6 @@
 //! A route server that is driven by a link in memory.
 
+use crate::common::is_so;
 use crate::route_server::exchange::{
     A, B, KEEPALIVE, NO_ROUTE, OPEN_A, OPEN_B, OPEN_SERVER, ROUTE, server, text,
 };
@@ -71,7 +72,7 @@ impl Driven {
     /// Nothing is owed to a client.
     fn has_drained(&self, rt: &impl Abort, c: usize) {
         assert!(rt; c < self.core.clients());
-        assert!(rt; self.core.is_drained(c));
+        is_so(rt, self.core.is_drained(c), "drained");
     }
 
     /// Lets it go in one call, which is one step of a test, and not one for each of its lists.
@@ -98,7 +99,7 @@ fn a_route_goes_over_a_link(rt: HostRuntime) {
     driven
         .link
         .was_sent(&rt, B, &[OPEN_SERVER, KEEPALIVE, ROUTE]);
-    assert!(rt; !driven.link.is_full);
+    is_so(&rt, !driven.link.is_full, "memory for the link");
     driven.has_drained(&rt, B);
     driven.let_go();
 }
@@ -216,7 +217,7 @@ fn goes_by<R: Threads + Wait + Sync + Abort, G: Gate>(
 fn both_shares_run_by_a_link(rt: HostRuntime) {
     let gate = Both::new();
     goes_by(&rt, rt.alloc(), 2, &gate);
-    assert!(rt; !gate.has_failed());
+    is_so(&rt, !gate.has_failed(), "both run");
 }
 
 #[test]

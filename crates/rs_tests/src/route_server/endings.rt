@@ -1,5 +1,6 @@
 //! Why sessions end, and which UPDATEs are not taken as they come.
 
+use crate::common::{equals, is_of};
 use crate::route_server::exchange::{
     A, B, BAD_ROUTE, Exchange, IPV6_ROUTE, NO_NEXT_HOP, NO_ROUTE, OPEN_A, ROUTE,
 };
@@ -16,12 +17,12 @@ fn ending(rt: &impl Abort, exchange: &Exchange, c: usize) -> Option<Ending> {
 
 /// The last session of a client ended so.
 fn has_ended(rt: &impl Abort, exchange: &Exchange, c: usize, want: Ending) {
-    assert_eq!(rt; ending(rt, exchange, c), Some(want), "client {c}");
+    is_of(rt, ending(rt, exchange, c), Some(want), &("client", c));
 }
 
 /// No session of a client has ended.
 fn goes_on(rt: &impl Abort, exchange: &Exchange, c: usize) {
-    assert_eq!(rt; ending(rt, exchange, c), None, "client {c}");
+    is_of(rt, ending(rt, exchange, c), None, &("client", c));
 }
 
 /// So many UPDATEs of a client were at fault, the last one by these faults.
@@ -32,7 +33,7 @@ fn has_faulted(rt: &impl Abort, exchange: &Exchange, c: usize, count: u64, last:
         last,
         mp_reach: 0,
     };
-    assert_eq!(rt; exchange.core.faulted(c), want, "client {c}");
+    is_of(rt, exchange.core.faulted(c), want, &("client", c));
 }
 
 #[test]
@@ -134,8 +135,8 @@ fn routes_in_mp_reach_nlri_are_counted(rt: HostRuntime) {
     exchange.hear(&rt, A, IPV6_ROUTE);
     assert!(rt; A < exchange.core.clients());
     let faulted = exchange.core.faulted(A);
-    assert_eq!(rt; faulted.mp_reach, 2);
-    assert_eq!(rt; faulted.count, 0);
+    equals(&rt, faulted.mp_reach, 2);
+    equals(&rt, faulted.count, 0);
     exchange.let_go();
 }
 

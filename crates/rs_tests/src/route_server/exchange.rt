@@ -1,6 +1,6 @@
 //! An exchange of members a and b, AS 64496 and 64497, beside the server's AS 64500.
 
-use crate::common::put;
+use crate::common::{is_of, is_so, push, put, text_of};
 use rs_core::Core;
 use rs_policy::Config;
 use rs_session::Command;
@@ -53,7 +53,7 @@ fn octet(pair: &[u8]) -> u8 {
 fn put_message(rt: &impl Abort, octets: &mut Vec<u8>, digits: &str) {
     put(rt, octets, &[0xff; 16]);
     for pair in digits.as_bytes().chunks(2) {
-        octets.push(octet(pair)).expect(rt, "an octet");
+        push(rt, octets, octet(pair));
     }
 }
 
@@ -73,14 +73,22 @@ pub fn message(rt: &impl Abort, alloc: Global, digits: &str) -> Vec<u8> {
     octets
 }
 
+/// The top of the configuration and both members' tables.
+const TOP: &str = "as = 64500\nidentifier = \"192.0.2.1\"\nhold = 90\n";
+
+const MEMBER_A: &str =
+    "\n[[client]]\nname = \"a\"\nas = 64496\nlisten = \"127.0.0.1:17901\"\npeer = \"192.0.2.11\"\n";
+
+const MEMBER_B: &str =
+    "\n[[client]]\nname = \"b\"\nas = 64497\nlisten = \"127.0.0.1:17902\"\npeer = \"192.0.2.12\"\n";
+
 /// The text of the configuration, with these lines more for the server, for a and for b.
 pub fn text(rt: &impl Abort, alloc: Global, server: &str, of_a: &str, of_b: &str) -> String {
-    let text = format!(in alloc;
-        "as = 64500\nidentifier = \"192.0.2.1\"\nhold = 90\n{server}\n\
-        [[client]]\nname = \"a\"\nas = 64496\nlisten = \"127.0.0.1:17901\"\npeer = \"192.0.2.11\"\n{of_a}\n\
-        [[client]]\nname = \"b\"\nas = 64497\nlisten = \"127.0.0.1:17902\"\npeer = \"192.0.2.12\"\n{of_b}\n"
-    );
-    text.expect(rt, "a text")
+    text_of(
+        rt,
+        alloc,
+        &[TOP, server, MEMBER_A, of_a, MEMBER_B, of_b, "\n"],
+    )
 }
 
 /// A route server with these lines in its configuration, for the server and for a.
@@ -155,6 +163,11 @@ impl Exchange {
         self.turn();
     }
 
+    /// The rules are replaced by those of a good text.
+    pub fn takes_rules(&mut self, rt: &impl Abort, text: &str) {
+        is_so(rt, self.core.rules(text.as_bytes()).is_ok(), "good rules");
+    }
+
     /// The operator commands this of a client's session.
     pub fn command(&mut self, rt: &impl Abort, c: usize, command: Command) {
         assert!(rt; c < self.core.clients());
@@ -170,7 +183,7 @@ impl Exchange {
     /// The connection of a client that has none is taken.
     pub fn open(&mut self, rt: &impl Abort, c: usize) {
         assert!(rt; c < self.core.clients());
-        assert!(rt; self.core.opened(c).is_ok());
+        is_so(rt, self.core.opened(c).is_ok(), "taken");
     }
 
     /// A connection of a client comes, its OPEN and its KEEPALIVE.
@@ -195,7 +208,7 @@ impl Exchange {
     /// The connection of a client is to be closed.
     pub fn closes(&mut self, rt: &impl Abort, c: usize) {
         assert!(rt; c < self.core.clients());
-        assert!(rt; self.core.wants_close(c));
+        is_so(rt, self.core.wants_close(c), "to be closed");
     }
 
     /// What the link of a client takes, up to so many octets.
@@ -221,6 +234,7 @@ impl Exchange {
         let mut octets = front;
         let rest = self.sent(rt, c, 5_000);
         put(rt, &mut octets, &rest);
-        assert_eq!(rt; octets, messages(rt, self.alloc, all), "client {c}");
+        let want = messages(rt, self.alloc, all);
+        is_of(rt, octets, want, &("client", c));
     }
 }

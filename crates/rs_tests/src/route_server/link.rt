@@ -1,7 +1,7 @@
 //! A link in memory: it tells a script of events, and keeps what it was told. Nothing is known of it, as
 //! of one over sockets.
 
-use crate::common::put;
+use crate::common::{equals, is_of, push, put};
 use crate::route_server::exchange::{KEEPALIVE, message, messages};
 use rs_core::{Event, Link, Sink, Source};
 use rs_policy::RulesFault;
@@ -9,7 +9,7 @@ use std::alloc::Global;
 use std::process::Abort;
 
 /// What a link was told.
-#[derive(Clone, Copy, Debug, PartialEq, Eq)]
+#[derive(Clone, Copy, Debug, PartialEq)]
 pub enum Said {
     Begin(usize),
     Busy(usize),
@@ -59,14 +59,14 @@ impl Tape {
     /// It will tell this event, too.
     pub fn add(&mut self, rt: &impl Abort, event: Event) {
         let nothing = Vec::new(self.alloc);
-        self.events.push((event, nothing)).expect(rt, "an event");
+        push(rt, &mut self.events, (event, nothing));
     }
 
     /// It will tell that this message of a client has come.
     pub fn hear(&mut self, rt: &impl Abort, c: usize, digits: &str) {
         let octets = message(rt, self.alloc, digits);
         let event = Event::Octets(c, octets.len());
-        self.events.push((event, octets)).expect(rt, "an event");
+        push(rt, &mut self.events, (event, octets));
     }
 
     /// A connection of a client will come, its OPEN and its KEEPALIVE, and there is room for what it is
@@ -85,7 +85,7 @@ impl Tape {
 
     /// It will take at most so many octets of the next offer that nothing was said of; or fail.
     pub fn take(&mut self, rt: &impl Abort, most: Option<usize>) {
-        self.takes.push(most).expect(rt, "an offer");
+        push(rt, &mut self.takes, most);
     }
 
     /// This is the text of the rules.
@@ -97,14 +97,14 @@ impl Tape {
     /// Behind the first so much it was told just this.
     pub fn was_told(&self, rt: &impl Abort, first: usize, want: &[Said]) {
         let last = self.said.get(first..).unwrap_or(&[]);
-        assert_eq!(rt; last, want);
+        equals(rt, last, want);
     }
 
     /// A client was sent just these messages.
     pub fn was_sent(&self, rt: &impl Abort, c: usize, all: &[&str]) {
         let want = messages(rt, self.alloc, all);
         let sent = self.sent.get(c).expect(rt, "a client");
-        assert!(rt; *sent == want, "client {c}");
+        is_of(rt, sent.as_slice(), want.as_slice(), &("client", c));
     }
 
     fn say(&mut self, what: Said) {

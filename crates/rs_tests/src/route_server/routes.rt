@@ -1,5 +1,6 @@
 //! What members are sent of each other's routes.
 
+use crate::common::{equals, is_so};
 use crate::route_server::exchange::{
     A, B, BAD_ROUTE, Exchange, KEEPALIVE, NO_ROUTE, NO_ROUTE_B, OPEN_A, OPEN_B, ROUTE, ROUTE_B,
     text,
@@ -25,8 +26,8 @@ fn is_told_of_one(rt: &impl Abort, exchange: &Exchange, c: usize) {
         whole: false,
     });
     assert!(rt; c < exchange.core.clients());
-    assert_eq!(rt; exchange.core.last(c), one);
-    assert!(rt; exchange.core.is_drained(c));
+    equals(rt, exchange.core.last(c), one);
+    is_so(rt, exchange.core.is_drained(c), "drained");
 }
 
 #[test]
@@ -53,7 +54,7 @@ fn a_flap_between_takings_is_not_seen(rt: HostRuntime) {
 fn a_member_that_comes_back_is_told_all(rt: HostRuntime) {
     let mut exchange = Exchange::with_a_route(&rt, rt.alloc(), "");
     let front = exchange.sent(&rt, B, 10);
-    assert_eq!(rt; front.len(), 10);
+    equals(&rt, front.len(), 10);
     exchange.lose(&rt, B);
     exchange.greet(&rt, B, OPEN_B);
     exchange.turn();
@@ -91,7 +92,7 @@ fn drop_all_for_b(rt: &impl Abort, exchange: &mut Exchange) {
         "",
         "export = [{ action = \"drop\" }]",
     );
-    assert!(rt; exchange.core.rules(text.as_str().as_bytes()).is_ok());
+    exchange.takes_rules(rt, text.as_str());
 }
 
 #[test]

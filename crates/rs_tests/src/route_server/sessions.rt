@@ -1,13 +1,14 @@
 //! How sessions come up and end.
 
+use crate::common::is_so;
 use crate::route_server::exchange::{A, Exchange, OPEN_A, ROUTE};
 use std::process::Abort;
 
 /// A client is Established, and no other connection of it is taken.
 fn is_busy(rt: &impl Abort, exchange: &mut Exchange, c: usize) {
     assert!(rt; c < exchange.core.clients());
-    assert!(rt; exchange.core.opened(c).is_err());
-    assert!(rt; exchange.core.is_established(c));
+    is_so(rt, exchange.core.opened(c).is_err(), "busy");
+    is_so(rt, exchange.core.is_established(c), "established");
 }
 
 #[test]

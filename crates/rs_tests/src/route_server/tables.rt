@@ -1,6 +1,6 @@
 //! What is asked of the tables: of who announced what, and of what is due.
 
-use crate::common;
+use crate::common::{self, equals, is_so};
 use crate::route_server::exchange::{A, B, Exchange, NO_ROUTE, ROUTE, ROUTE_B, text};
 use rs_octets::Prefix;
 use std::process::Abort;
@@ -37,8 +37,8 @@ fn first_from(
 /// A client is known to hold so many routes, and so many are due to it.
 fn counts(rt: &impl Abort, exchange: &Exchange, c: usize, received: usize, due: usize) {
     assert!(rt; c < exchange.core.clients());
-    assert_eq!(rt; exchange.core.received_count(c), received);
-    assert_eq!(rt; exchange.core.routes_count(c), due);
+    equals(rt, exchange.core.received_count(c), received);
+    equals(rt, exchange.core.routes_count(c), due);
 }
 
 /// From a prefix on the first that a client is known to hold is this one, and the first that is due to it that one.
@@ -50,7 +50,7 @@ fn begin_so(
     want: (Option<(u32, u8)>, Option<(u32, u8)>),
 ) {
     let found = first_from(rt, exchange, c, from);
-    assert_eq!(rt; found, want);
+    equals(rt, found, want);
 }
 
 #[test]
@@ -73,13 +73,13 @@ fn routes_from_a_prefix_on(rt: HostRuntime) {
 /// The import rules of a are replaced by these.
 fn import_by(rt: &impl Abort, exchange: &mut Exchange, rules: &str) {
     let text = text(rt, exchange.alloc, "", rules, "");
-    assert!(rt; exchange.core.rules(text.as_str().as_bytes()).is_ok());
+    exchange.takes_rules(rt, text.as_str());
 }
 
 /// So many routes of a and of b are dropped by their own import rules.
 fn are_dropped(rt: &impl Abort, exchange: &Exchange, of_a: usize, of_b: usize) {
-    assert_eq!(rt; exchange.core.dropped_count(A), of_a);
-    assert_eq!(rt; exchange.core.dropped_count(B), of_b);
+    equals(rt, exchange.core.dropped_count(A), of_a);
+    equals(rt, exchange.core.dropped_count(B), of_b);
 }
 
 #[test]
@@ -110,18 +110,18 @@ fn who_holds_a_prefix(rt: HostRuntime) {
     let mut holders = 0u32;
     for candidate in exchange.core.candidates_at(prefix(&rt, OF_A)) {
         holders = holders.saturating_add(1);
-        assert_eq!(rt; candidate.client, A);
+        equals(&rt, candidate.client, A);
         // of the OPEN of a
-        assert_eq!(rt; candidate.identifier, 0xc000_020b);
-        assert_eq!(rt; candidate.attrs.next_hop(), Some(0xc000_020b));
+        equals(&rt, candidate.identifier, 0xc000_020b);
+        equals(&rt, candidate.attrs.next_hop(), Some(0xc000_020b));
     }
-    assert_eq!(rt; holders, 1);
+    equals(&rt, holders, 1);
     let nobody = exchange
         .core
         .candidates_at(prefix(&rt, OF_B))
         .next()
         .is_none();
-    assert!(rt; nobody);
+    is_so(&rt, nobody, "nobody holds it");
     exchange.let_go();
 }
 
@@ -129,8 +129,8 @@ fn who_holds_a_prefix(rt: HostRuntime) {
 fn the_configuration_in_force(rt: HostRuntime) {
     let exchange = Exchange::new(&rt, rt.alloc(), "", "");
     let config = exchange.core.config();
-    assert_eq!(rt; config.server_as(), 64_500);
+    equals(&rt, config.server_as(), 64_500);
     assert!(rt; B < config.clients());
-    assert_eq!(rt; config.client_as(B), 64_497);
+    equals(&rt, config.client_as(B), 64_497);
     exchange.let_go();
 }

@@ -1,5 +1,6 @@
 //! Turns by workers.
 
+use crate::common::{equals, is_so};
 use crate::route_server::exchange::{A, B, Exchange, ROUTE};
 use crate::workers::Both;
 use rs_workers::{Free, Gate};
@@ -19,8 +20,8 @@ fn turns_by<R: Threads + Wait + Sync + Abort, G: Gate>(
     exchange.hear(rt, A, ROUTE);
     assert!(rt; 0 < workers && workers <= 16);
     let turns = exchange.core.turn_with(rt, workers, gate);
-    assert_eq!(rt; turns.done, 2);
-    assert_eq!(rt; turns.refused, 0);
+    equals(rt, turns.done, 2);
+    equals(rt, turns.refused, 0);
     exchange.sends(rt, B, &[ROUTE]);
     exchange.let_go();
 }
@@ -29,7 +30,7 @@ fn turns_by<R: Threads + Wait + Sync + Abort, G: Gate>(
 fn both_shares_run(rt: HostRuntime) {
     let gate = Both::new();
     turns_by(&rt, rt.alloc(), 2, &gate);
-    assert!(rt; !gate.has_failed());
+    is_so(&rt, !gate.has_failed(), "both run");
 }
 
 #[test]

@@ -88,10 +88,8 @@ fn is_left(rt: &impl Abort, alloc: Global, config: &Config, to: usize, said: &[u
         Verdict::Pass { strip, .. } => Some(strip),
     };
     let found = stripped(alloc, &attrs, &strip.expect(rt, "a route that goes"));
-    assert!(rt;
-        found.expect(rt, "attributes") == route_with(rt, alloc, left),
-        "to {to}"
-    );
+    let found = found.expect(rt, "attributes");
+    is_of(rt, found, route_with(rt, alloc, left), &("to", to));
 }
 
 /// A route goes from one client to another.
@@ -118,7 +116,7 @@ fn goes(
     let (from, to) = clients;
     let found = is_passed(rt, config, from, to, route);
     let prefix = route.0;
-    assert_eq!(rt; found, want, "from {from} to {to} at {prefix:?}");
+    is_of(rt, found, want, &(from, to, *prefix));
 }
 
 /// A route of alpha with these communities goes to beta and to gamma, or does not; from beta to gamma it never does.
@@ -139,9 +137,8 @@ fn is_filtered(
 
 #[test]
 fn the_exchange_example_is_read_and_filters(rt: HostRuntime) {
-    let text = format!(in rt.alloc(); "{EXCHANGE}{EXCHANGE_LISTS}").expect(&rt, "a text");
-    let config = read(&rt, rt.alloc(), text.as_str());
-    assert_eq!(rt; config.clients(), 3);
+    let config = read_parts(&rt, rt.alloc(), &[EXCHANGE, EXCHANGE_LISTS]);
+    equals(&rt, config.clients(), 3);
     speaks_of(&rt, &config, true, true, true);
     is_named(&rt, &config, 2, "gamma");
     is_reached(&rt, &config, 2, (0xc000_0201, 179), 0xc000_020d);
