@@ -9,7 +9,13 @@ use crate::{Act, Busy, Command, Heard, Session, Settings, State};
 use rs_attrs::Mode;
 use rs_octets::HeaderFault;
 use rs_open::{Limit, Short, ShutdownText, read_open};
+use std::fmt::Debug;
 use std::process::Abort;
+
+/// This is found, and this was wanted, of what the text names.
+fn is<T: Debug + PartialEq + Drop>(rt: &impl Abort, found: T, want: T, of: &str) {
+    assert_eq!(rt; found, want, "{of}");
+}
 
 /// A client of AS 64496, and a Hold Time of 90.
 const SETTINGS: Settings = Settings {
@@ -34,26 +40,42 @@ enum Call {
     Command(Command),
 }
 
-/// The answers to some calls, of which an OPEN has at least 10 octets.
+/// The answer to a call, of which an OPEN has at least 10 octets.
+fn answer(rt: &impl Abort, session: &mut Session, call: Call) -> Act {
+    match call {
+        Call::Open(body) => {
+            assert!(rt; body.len() >= 10);
+            session.message(Heard::Open(read_open(body)))
+        }
+        Call::Hear(heard) => session.message(heard),
+        Call::At(t) => session.moment(t),
+        Call::Command(command) => session.command(command),
+    }
+}
+
+/// The call at this place is answered by this.
+fn answers(rt: &impl Abort, name: &str, place: usize, found: Act, want: Act) {
+    assert_eq!(rt; found, want, "{name}, call {place}");
+}
+
+/// Some calls are answered so.
 fn play(rt: &impl Abort, name: &str, session: &mut Session, script: &[(Call, Act)]) {
     for (place, (call, want)) in script.iter().enumerate() {
-        let act = match *call {
-            Call::Open(body) => {
-                assert!(rt; body.len() >= 10, "{name}");
-                session.message(Heard::Open(read_open(body)))
-            }
-            Call::Hear(heard) => session.message(heard),
-            Call::At(t) => session.moment(t),
-            Call::Command(command) => session.command(command),
-        };
-        assert_eq!(rt; act, *want, "{name}, call {place}");
+        let found = answer(rt, session, *call);
+        answers(rt, name, place, found, *want);
     }
+}
+
+/// A connection comes, and is answered by an OPEN.
+fn connects(rt: &impl Abort, session: &mut Session) {
+    let opened = session.opened();
+    is(rt, opened, Ok(Act::Say(Short::Open)), "a connection");
 }
 
 /// A session with a connection.
 fn connected(rt: &impl Abort, settings: Settings) -> Session {
     let mut session = Session::new(settings);
-    assert_eq!(rt; session.opened(), Ok(Act::Say(Short::Open)));
+    connects(rt, &mut session);
     session
 }
 
@@ -75,4 +97,23 @@ fn established(rt: &impl Abort) -> Session {
     let mut session = connected(rt, SETTINGS);
     play(rt, "comes up", &mut session, &COMES_UP);
     session
+}
+
+/// What is done in OpenSent.
+fn play_in_open_sent(rt: &impl Abort, name: &str, script: &[(Call, Act)]) {
+    play(rt, name, &mut connected(rt, SETTINGS), script);
+}
+
+const CONFIRMS: [(Call, Act); 1] = [(Call::Open(OPEN), SAY_KEEPALIVE)];
+
+/// What is done in OpenConfirm.
+fn play_in_open_confirm(rt: &impl Abort, name: &str, script: &[(Call, Act)]) {
+    let mut session = connected(rt, SETTINGS);
+    play(rt, "an OPEN comes", &mut session, &CONFIRMS);
+    play(rt, name, &mut session, script);
+}
+
+/// What is done in Established, from moment 0 on.
+fn play_in_established(rt: &impl Abort, name: &str, script: &[(Call, Act)]) {
+    play(rt, name, &mut established(rt), script);
 }

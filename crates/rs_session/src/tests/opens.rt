@@ -91,21 +91,26 @@ const TAKEN: [(&str, Settings, &[u8], Mode, Limit); 6] = [
     ("not taken", LONG, OPEN, Mode::Four, Limit::Short),
 ];
 
+/// A session that hears this OPEN first does this, and closes.
+fn is_refused(rt: &impl Abort, name: &str, body: &'static [u8], want: Act) {
+    let mut session = connected(rt, SETTINGS);
+    play(rt, name, &mut session, &[(Call::Open(body), want)]);
+    is(rt, session.state(), State::Closing, name);
+    is(rt, session.mode(), None, name);
+}
+
 #[test]
 fn opens_that_are_refused(rt: HostRuntime) {
     for (name, body, want) in refused() {
-        let mut session = connected(&rt, SETTINGS);
-        play(&rt, name, &mut session, &[(Call::Open(body), want)]);
-        assert_eq!(rt; session.state(), State::Closing, "{name}");
-        assert_eq!(rt; session.mode(), None, "{name}");
+        is_refused(&rt, name, body, want);
     }
 }
 
 /// What holds once a client has said an OPEN that is taken.
 fn holds_from_then_on(rt: &impl Abort, session: &Session, mode: Mode, limit: Limit, name: &str) {
-    assert_eq!(rt; session.mode(), Some(mode), "{name}");
-    assert_eq!(rt; session.limit(), limit, "{name}");
-    assert_eq!(rt; session.identifier(), 0xc000_020b, "{name}");
+    is(rt, session.mode(), Some(mode), name);
+    is(rt, session.limit(), limit, name);
+    is(rt, session.identifier(), 0xc000_020b, name);
 }
 
 #[test]

@@ -19,7 +19,7 @@ fn an_open_is_waited_for_four_minutes(rt: HostRuntime) {
         &mut silent,
         &[(Call::At(239), Act::None), (Call::At(240), down(4, 0))],
     );
-    assert_eq!(rt; silent.state(), State::Closing);
+    is(&rt, silent.state(), State::Closing, "the state");
 }
 
 #[test]
@@ -31,8 +31,11 @@ fn keepalives_and_the_hold_timer(rt: HostRuntime) {
         (Call::At(60), SAY_KEEPALIVE),
         (Call::At(90), down(4, 0)),
     ];
-    play(&rt, "90 seconds", &mut established(&rt), &keepalives);
+    play_in_established(&rt, "90 seconds", &keepalives);
+}
 
+#[test]
+fn what_restarts_the_hold_timer(rt: HostRuntime) {
     let restarts = [
         (Call::At(89), SAY_KEEPALIVE),
         KEEPALIVE,
@@ -45,12 +48,7 @@ fn keepalives_and_the_hold_timer(rt: HostRuntime) {
         (Call::At(208), SAY_KEEPALIVE),
         (Call::At(209), down(4, 0)),
     ];
-    play(
-        &rt,
-        "what restarts the hold timer",
-        &mut established(&rt),
-        &restarts,
-    );
+    play_in_established(&rt, "restarts", &restarts);
 }
 
 #[test]
@@ -63,60 +61,49 @@ fn the_hold_time_used_is_the_smaller(rt: HostRuntime) {
         (Call::At(3), SAY_KEEPALIVE),
         (Call::At(4), down(4, 0)),
     ];
-    play(
-        &rt,
-        "the client's Hold Time",
-        &mut connected(&rt, SETTINGS),
-        &third_of_3,
-    );
+    play_in_open_sent(&rt, "the client's Hold Time", &third_of_3);
+}
 
-    let none = [
-        (Call::Open(OPEN_HOLD_0), SAY_KEEPALIVE),
-        (Call::At(400), Act::None),
-        (Call::Hear(Heard::Keepalive), Act::Up),
-        (Call::At(1_000_000), Act::None),
-        (Call::At(u64::MAX), Act::None),
-    ];
-    play(&rt, "no Hold Time", &mut connected(&rt, SETTINGS), &none);
+/// A client without a Hold Time, whose session no moment ends.
+const NO_HOLD_TIME: [(Call, Act); 5] = [
+    (Call::Open(OPEN_HOLD_0), SAY_KEEPALIVE),
+    (Call::At(400), Act::None),
+    (Call::Hear(Heard::Keepalive), Act::Up),
+    (Call::At(1_000_000), Act::None),
+    (Call::At(u64::MAX), Act::None),
+];
+
+#[test]
+fn no_hold_time_is_used(rt: HostRuntime) {
+    play_in_open_sent(&rt, "no Hold Time", &NO_HOLD_TIME);
     let unhurried = Settings {
         hold: 0,
         ..SETTINGS
     };
-    play(
-        &rt,
-        "none of ours",
-        &mut connected(&rt, unhurried),
-        &COMES_UP,
-    );
+    let mut session = connected(&rt, unhurried);
+    play(&rt, "none of ours", &mut session, &COMES_UP);
 }
 
 #[test]
 fn moments_before_the_connection(rt: HostRuntime) {
     let mut session = Session::new(SETTINGS);
-    assert_eq!(rt; session.moment(1_000_000), Act::None);
-    assert_eq!(rt; session.state(), State::Idle);
-    assert_eq!(rt; session.opened(), Ok(Act::Say(Short::Open)));
-    play(
-        &rt,
-        "since then",
-        &mut session,
-        &[
-            (Call::At(1_000_239), Act::None),
-            (Call::At(5), Act::None),
-            (Call::At(1_000_240), down(4, 0)),
-            (Call::At(2_000_000), Act::None),
-        ],
-    );
+    let before = [(Call::At(1_000_000), Act::None)];
+    play(&rt, "before", &mut session, &before);
+    is(&rt, session.state(), State::Idle, "the state");
+    connects(&rt, &mut session);
+    let since_then = [
+        (Call::At(1_000_239), Act::None),
+        (Call::At(5), Act::None),
+        (Call::At(1_000_240), down(4, 0)),
+        (Call::At(2_000_000), Act::None),
+    ];
+    play(&rt, "since then", &mut session, &since_then);
     session.lost();
-    assert_eq!(rt; session.opened(), Ok(Act::Say(Short::Open)));
-    play(
-        &rt,
-        "and again",
-        &mut session,
-        &[
-            (Call::At(2_000_239), Act::None),
-            (Call::Open(OPEN), SAY_KEEPALIVE),
-            (Call::At(2_000_269), SAY_KEEPALIVE),
-        ],
-    );
+    connects(&rt, &mut session);
+    let again = [
+        (Call::At(2_000_239), Act::None),
+        (Call::Open(OPEN), SAY_KEEPALIVE),
+        (Call::At(2_000_269), SAY_KEEPALIVE),
+    ];
+    play(&rt, "and again", &mut session, &again);
 }
