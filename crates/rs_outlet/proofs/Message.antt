@@ -4,4 +4,5 @@ pub mod Fullest
 pub mod AllWaiting
 pub mod Rising
 pub mod Chosen
+pub mod Collected
 pub mod Beginning

@@ -5,6 +5,8 @@ pub mod Slots
 pub mod Withdrawals
 pub mod Finding
 pub mod Adding
+pub mod Apart
+pub mod InOrder
 pub mod TwoParts
 pub mod PutAmong
 pub mod MarkedAgain

@@ -1,5 +1,5 @@
 -- How the fields of an outlet make what callers see, and what the fields keep.
-use Rattle.std.specs.Prelude.{◌≡◌, ◌≢◌, ◌⊎◌, ℕ, suc, ◌+◌, ◌-◌, ◌≤◌, ◌<◌, ◌||◌, Bool, true, false, nat_eq, Option, None, Some, List, [], ◌∷◌, ◌++◌, map, option_map, slice_range, slice_get, vec_len, length, IfSome, if◌then◌else◌}
+use Rattle.std.specs.Prelude.{◌≡◌, ◌≢◌, ◌⊎◌, ℕ, suc, ◌+◌, ◌-◌, ◌≤◌, ◌<◌, ◌||◌, Bool, true, false, nat_eq, Option, None, Some, List, [], ◌∷◌, ◌++◌, map, option_map, slice_range, slice_get, take, vec_len, length, IfSome, if◌then◌else◌}
 use Rattle.std.specs.List.{AllByRecursion, IsDistinct, list_any}
 use Rattle.std.specs.Ordering.{eq_by_cmp}
 use Rattle.std.specs.Vec.{vec_capacity}
@@ -217,6 +217,6 @@ pub record IsKept (a : Inside) : Type 0 where
   pub slots : a.rows.used + withdrawn_count a.waits.slots.items ≤ vec_capacity a.waits.slots
   pub extended : (speech : Speech) → a.speech ≡ Some speech → speech.limit ≡ limits.Long → a.extended ≡ true
   pub backed : AreBacked a.rows.rows.items a.waits.slots.items
-  pub chained : AreChained a.rows.rows.items a.waits.slots.items a.waits.chains.items
+  pub chained : AreChained a.rows.rows.items (take a.waits.sorted a.waits.slots.items) a.waits.chains.items
   pub fit : (speech : Speech) → a.speech ≡ Some speech → RowsFit speech a.rows.rows.items
   pub asked : a.asked ≡ true → IsAskedAgain (loc_of a.rows.rows.items) a.waits.slots.items

@@ -1,6 +1,6 @@
 //! The changes of a turn carried out: the rows have what is due, and what the client was not told so waits.
 
-ghost use Rattle.std.specs.Prelude.{◌≡◌, ◌≢◌, ◌<◌, ◌≤◌, ◌+◌, ◌++◌, ℕ, [], List, Option, None, Some, true, nat_eq, option_map, vec_len, if◌then◌else◌, IfSome, IfOk, IsTrue, OnOk};
+ghost use Rattle.std.specs.Prelude.{◌≡◌, ◌≢◌, ◌<◌, ◌≤◌, ◌+◌, ◌++◌, ℕ, [], List, Option, None, Some, true, nat_eq, option_map, take, vec_len, if◌then◌else◌, IfSome, IfOk, IsTrue, OnOk};
 ghost use Rattle.std.specs.List.{IsDistinct};
 ghost use Rattle.std.specs.Arc.{arc_value};
 ghost use Rattle.std.specs.FinMap as fin;
@@ -147,6 +147,7 @@ pub(crate) fn make_room(
     ensures numbers { numbers_from 0 rows.new.rows.items ≡ numbers_from 0 rows.old.rows.items }
     ensures waits { waits.new.slots.items ≡ waits.old.slots.items }
     ensures chains { waits.new.chains.items ≡ waits.old.chains.items }
+    ensures sorted { waits.new.sorted ≡ waits.old.sorted }
     ensures room { OnOk result (numbers ≤ vec_len rows.new.rows) }
     ensures none { IfOk result (λ fresh. fresh.items ≡ []) }
     ensures fresh { IfOk result (λ fresh. changes ≤ vec_capacity fresh) }
@@ -181,7 +182,7 @@ pub(crate) fn commit(rows: &mut Rows, waits: &mut Waits, changes: Vec<Change>, m
     ensures loc { (ins : AdjIns) (due : Prefix → Option (List Attribute)) → ArePlaced changes.items ins → AreDue due changes.items → HaveNumbers (numbers_from 0 rows.old.rows.items) ins → (q : Prefix) → fin.get (loc_of rows.new.rows.items) q ≡ (if is_changed changes.items q then due q else fin.get (loc_of rows.old.rows.items) q) }
     ensures numbered { (ins : AdjIns) → ArePlaced changes.items ins → HaveNumbers (numbers_from 0 rows.old.rows.items) ins → HaveNumbers (numbers_from 0 rows.new.rows.items) ins }
     ensures none { changes.items ≡ [] → (rows.new ≡ rows.old) × (waits.new ≡ waits.old) }
-    ensures chained { AreChained rows.old.rows.items waits.old.slots.items waits.old.chains.items → AreChained rows.new.rows.items waits.new.slots.items waits.new.chains.items }
+    ensures chained { AreChained rows.old.rows.items (take waits.old.sorted waits.old.slots.items) waits.old.chains.items → AreChained rows.new.rows.items (take waits.new.sorted waits.new.slots.items) waits.new.chains.items }
     ensures backed { AreBacked rows.old.rows.items waits.old.slots.items → AreBacked rows.new.rows.items waits.new.slots.items }
     ensures fit { (speech : Speech) → ChangesFit speech changes.items → RowsFit speech rows.old.rows.items → RowsFit speech rows.new.rows.items }
     ensures keeps { (ins : AdjIns) → ArePlaced changes.items ins → HaveNumbers (numbers_from 0 rows.old.rows.items) ins → (q : Prefix) → Keeps (open_at q waits.old.slots.items) (fin.get (loc_of rows.old.rows.items) q) (open_at q waits.new.slots.items) (fin.get (loc_of rows.new.rows.items) q) }

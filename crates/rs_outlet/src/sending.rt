@@ -9,11 +9,10 @@ ghost use Rattle.rs_packer.specs.Packed.{IsLongestFront, announcement, withdrawa
 ghost use Rattle.rs_outlet.specs.Message.Next.{note_octets};
 ghost use Rattle.rs_outlet.specs.Message.Begins.{BeginsUpdate};
 ghost use Rattle.rs_outlet.specs.Views.{WaitsAreExact};
-ghost use Rattle.rs_outlet.specs.Pending.Choosing.{HaveRoom, MayUpdate, NoneWithdrawn, WaitsFor};
+ghost use Rattle.rs_outlet.specs.Pending.Choosing.{AnyPasses, HaveRoom, IsLeastOf, MayUpdate, NoneWithdrawn, WaitsFor};
 ghost use Rattle.rs_outlet.specs.Inside.{AreBacked, AreChained, RowsFit};
 ghost use Rattle.rs_outlet.specs.declared.answers.Speech.{Speech};
 ghost use Rattle.rs_outlet.specs.declared.rows.Row.{Row};
-ghost use Rattle.std.specs.List.{AllWithin, HoldsAt};
 ghost use Rattle.std.specs.Vec.{vec_capacity};
 ghost use Rattle.rs_outlet.specs.Pending.Slots.{is_announced, is_withdrawn};
 ghost use Rattle.rs_open.specs.Notes.{limit_octets};
@@ -122,15 +121,13 @@ fn put_announcement(attrs: &Attrs, speech: Speech, prefixes: &[Prefix], out: &mu
 /// Writes the withdrawal of what waits for one from a slot on, and lists the slots.
 fn put_gone(
     waits: &Waits,
-    first: usize,
     speech: Speech,
     chosen: &mut Vec<usize>,
     front: &mut Vec<Prefix>,
     out: &mut Vec<u8>,
 ) -> Packed
     requires room { limit_octets speech.limit ≤ vec_len out.old }
-    requires some { (first < vec_len waits.now.slots) × HoldsAt (λ w. is_withdrawn w ≡ true) waits.now.slots.items first }
-    requires before { AllWithin (λ w. is_withdrawn w ≡ false) waits.now.slots.items 0 first }
+    requires some { AnyPasses is_withdrawn waits.now.slots.items }
     requires empty { HaveRoom chosen.old front.old }
     requires batch { (limit_octets speech.limit ≤ 23 + vec_capacity chosen.old) × (limit_octets speech.limit ≤ 23 + vec_capacity front.old) }
     requires none { (chosen.old.items ≡ []) × (front.old.items ≡ []) }
@@ -141,7 +138,7 @@ fn put_gone(
     ensures update { (rows : List (Option Row)) → MayUpdate speech rows waits.now.slots.items chosen.new.items front.new.items out.new.items result }
 {
     let room = most_prefixes(speech.limit);
-    waits.collect_withdrawn(first, room, chosen, front);
+    waits.collect_withdrawn(room, chosen, front);
     if front.is_empty() {
         return NOTHING;
     }
@@ -153,7 +150,6 @@ fn put_gone(
 fn put_news(
     rows: &Rows,
     waits: &mut Waits,
-    first: usize,
     attrs: &Attrs,
     speech: Speech,
     chosen: &mut Vec<usize>,
@@ -162,10 +158,9 @@ fn put_news(
 ) -> Packed
     requires room { limit_octets speech.limit ≤ vec_len out.old }
     requires in_turn { NoneWithdrawn waits.old.slots.items }
-    requires some { (first < vec_len waits.old.slots) × HoldsAt (WaitsFor rows.now.rows.items attrs.now) waits.old.slots.items first }
-    requires before { AllWithin (λ w. is_announced w ≡ false) waits.old.slots.items 0 first }
+    requires some { IsLeastOf (WaitsFor rows.now.rows.items attrs.now) is_announced waits.old.slots.items }
     requires backed { AreBacked rows.now.rows.items waits.old.slots.items }
-    requires chained { AreChained rows.now.rows.items waits.old.slots.items waits.old.chains.items }
+    requires chained { AreChained rows.now.rows.items (take waits.old.sorted waits.old.slots.items) waits.old.chains.items }
     requires fit { RowsFit speech rows.now.rows.items }
     requires empty { HaveRoom chosen.old front.old }
     requires batch { (limit_octets speech.limit ≤ 23 + vec_capacity chosen.old) × (limit_octets speech.limit ≤ 23 + vec_capacity front.old) }
@@ -175,12 +170,12 @@ fn put_news(
     ensures chosen { vec_capacity chosen.new ≡ vec_capacity chosen.old }
     ensures front { vec_capacity front.new ≡ vec_capacity front.old }
     ensures slots { waits.new.slots.items ≡ waits.old.slots.items }
-    ensures chained { AreChained rows.now.rows.items waits.new.slots.items waits.new.chains.items }
+    ensures chained { AreChained rows.now.rows.items (take waits.new.sorted waits.new.slots.items) waits.new.chains.items }
     ensures capacity { vec_capacity waits.new.slots ≡ vec_capacity waits.old.slots }
     ensures update { MayUpdate speech rows.now.rows.items waits.old.slots.items chosen.new.items front.new.items out.new.items result }
 {
     let room = most_prefixes(speech.limit);
-    let passed = waits.collect_announced(rows, first, attrs, room, chosen, front);
+    let passed = waits.collect_announced(rows, attrs, room, chosen, front);
     waits.note_passed(passed);
     // for the prover: they are legal
     attributes_are_legal(attrs);
@@ -198,7 +193,7 @@ fn put_update(
 ) -> Packed
     requires room { limit_octets speech.limit ≤ vec_len out.old }
     requires backed { AreBacked rows.now.rows.items waits.old.slots.items }
-    requires chained { AreChained rows.now.rows.items waits.old.slots.items waits.old.chains.items }
+    requires chained { AreChained rows.now.rows.items (take waits.old.sorted waits.old.slots.items) waits.old.chains.items }
     requires fit { RowsFit speech rows.now.rows.items }
     requires empty { HaveRoom chosen.old front.old }
     requires batch { (limit_octets speech.limit ≤ 23 + vec_capacity chosen.old) × (limit_octets speech.limit ≤ 23 + vec_capacity front.old) }
@@ -208,12 +203,12 @@ fn put_update(
     ensures chosen { vec_capacity chosen.new ≡ vec_capacity chosen.old }
     ensures front { vec_capacity front.new ≡ vec_capacity front.old }
     ensures slots { waits.new.slots.items ≡ waits.old.slots.items }
-    ensures chained { AreChained rows.now.rows.items waits.new.slots.items waits.new.chains.items }
+    ensures chained { AreChained rows.now.rows.items (take waits.new.sorted waits.new.slots.items) waits.new.chains.items }
     ensures capacity { vec_capacity waits.new.slots ≡ vec_capacity waits.old.slots }
     ensures update { MayUpdate speech rows.now.rows.items waits.old.slots.items chosen.new.items front.new.items out.new.items result }
 {
-    if let Some(first) = waits.first_withdrawn() {
-        return put_gone(waits, first, speech, chosen, front, out);
+    if let Some(_slot) = waits.first_withdrawn() {
+        return put_gone(waits, speech, chosen, front, out);
     }
     let Some(first) = waits.first_announced() else {
         return NOTHING;
@@ -221,7 +216,7 @@ fn put_update(
     let Some(row) = waits.row_for(rows, first) else {
         return NOTHING;
     };
-    put_news(rows, waits, first, &row.attrs, speech, chosen, front, out)
+    put_news(rows, waits, &row.attrs, speech, chosen, front, out)
 }
 
 impl Outlet {

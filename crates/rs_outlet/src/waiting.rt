@@ -1,10 +1,10 @@
 //! What waits to be sent to a client: the prefixes at which it was not told what is due, or that it
 //! asked for again. Each has a slot. The slots stand in two `parts`, each in rising order, so that a turn
-//! does not go over all that waits for a client that takes nothing.
+//! does not go over all that waits for a client that takes nothing, or little.
 //!
-//! Before a message begins, one part is made of both. From the second message on, each slot that is to be
-//! announced is chained to the next one that may have the same attributes (`chains`), and a message is read
-//! off along such a chain.
+//! Before the first message one part is made of both. From the second message on, each slot of the first
+//! part that is to be announced is chained to the next one that may have the same attributes (`chains`). A
+//! message is read off along such a chain and slot by slot in the late part, the lesser prefix first.
 
 ghost use Rattle.std.specs.Prelude.{List, ◌≡◌, ◌≤◌, ◌<◌, ◌+◌, ℕ, Option, None, Some, [], true, false, drop, length, take, vec_len, slice_get, slice_set, option_map, if◌then◌else◌, IfSome, IsTrue, OnOk, ◌++◌};
 ghost use Rattle.std.specs.List.{AllWithin, Contains, IsDistinct, list_any};
@@ -15,7 +15,7 @@ ghost use Rattle.std.proofs.Props.{props};
 ghost use Rattle.std.specs.Vec.{vec_capacity};
 ghost use Rattle.rs_octets.specs.Prefixes.{Prefix, prefix_order};
 ghost use Rattle.rs_outlet.specs.declared.waiting.Wait.{Wait};
-ghost use Rattle.rs_outlet.specs.Pending.Slots.{AreByHash, AreFresh, IsOpenSlot, hash_of, prefixes_at, open_count, withdrawn_count, is_withdrawn, is_announced, open_at, told_of, told_by, marked_by};
+ghost use Rattle.rs_outlet.specs.Pending.Slots.{AreApart, AreByHash, AreFresh, IsOpenSlot, IsShut, hash_of, prefixes_at, open_count, withdrawn_count, is_withdrawn, is_announced, open_at, told_of, told_by, marked_by};
 
 mod chains;
 mod choosing;
@@ -24,7 +24,7 @@ mod merging;
 mod parts;
 
 use crate::waiting::chains::Hashed;
-use crate::waiting::parts::{slot_of, sort_from};
+use crate::waiting::parts::{open_in, sort_from};
 use rs_attrs::Attrs;
 use rs_octets::Prefix;
 use std::alloc::{AllocError, Global};
@@ -59,36 +59,36 @@ pub(crate) struct Wait {
     pub(crate) open: bool,
 }
 
-/// What waits, in two parts by rising prefix. A prefix has one slot.
+/// What waits, in two parts by rising prefix. A prefix waits at one slot; another one of it in the other
+/// part waits no more.
 #[derive(Drop)]
 pub(crate) struct Waits {
     pub(crate) alloc: Global,
     pub(crate) slots: Vec<Wait>,
     /// How many slots are in the first part.
     pub(crate) sorted: usize,
-    /// There is one part, and a message of it began.
+    /// A message began since the first part was made.
     pub(crate) ready: bool,
-    /// For each slot the next one that may have its attributes; none where slots are not chained.
+    /// For each slot of the first part the next one that may have its attributes; none where slots are not chained.
     pub(crate) chains: Vec<u32>,
     /// While slots are chained: those that are to be announced, in the order in which they were chained.
     pub(crate) order: Vec<Hashed>,
     /// Slots of one hash are chained by their attributes too.
     pub(crate) exact: bool,
-    /// No slot before it is to be withdrawn.
+    /// No slot of the first part before it is to be withdrawn.
     pub(crate) gone: usize,
-    /// No slot before it is to be announced.
+    /// No slot of the first part before it is to be announced.
     pub(crate) news: usize,
     /// How many are open.
     pub(crate) waiting: usize,
     ghost counted: { open_count slots.items ≡ waiting },
-    ghost withdrawn: { AllWithin (λ w. is_withdrawn w ≡ false) slots.items 0 gone },
-    ghost announced: { AllWithin (λ w. is_announced w ≡ false) slots.items 0 news },
+    ghost withdrawn: { AllWithin (λ w. is_withdrawn w ≡ false) (take sorted slots.items) 0 gone },
+    ghost announced: { AllWithin (λ w. is_announced w ≡ false) (take sorted slots.items) 0 news },
     ghost within: { sorted ≤ vec_len slots },
     ghost first: { IsStrictlySortedBy prefix_order (take sorted (prefixes_at slots.items)) } by { Prim.hlevel props },
     ghost late: { IsStrictlySortedBy prefix_order (drop sorted (prefixes_at slots.items)) } by { Prim.hlevel props },
-    ghost apart: { IsDistinct (eq_by_cmp prefix_order) (prefixes_at slots.items) } by { Prim.hlevel props },
-    ghost one_part: { ready ≡ true → sorted ≡ vec_len slots },
-    ghost by_hash: { exact ≡ false → AreByHash slots.items chains.items },
+    ghost apart: { AreApart slots.items },
+    ghost by_hash: { exact ≡ false → AreByHash (take sorted slots.items) chains.items },
 }
 
 impl Waits {
@@ -132,6 +132,7 @@ impl Waits {
     pub(crate) fn reserve(&mut self, count: usize) -> Result<(), AllocError>
         ensures items { self.new.slots.items ≡ self.old.slots.items }
         ensures chains { self.new.chains.items ≡ self.old.chains.items }
+        ensures sorted { self.new.sorted ≡ self.old.sorted }
         ensures room { OnOk result (count ≤ vec_capacity self.new.slots) }
         ensures kept { vec_capacity self.old.slots ≤ vec_capacity self.new.slots }
     {
@@ -148,15 +149,12 @@ impl Waits {
         ensures found { IfSome result (λ slot. IsOpenSlot prefix.now self.now.slots.items slot) }
         ensures absent { result ≡ None → open_at prefix.now self.now.slots.items ≡ None }
     {
-        match slot_of(&self.slots, self.sorted, prefix) {
+        if let Some(slot) = open_in(&self.slots[..self.sorted], prefix) {
+            return Some(slot);
+        }
+        match open_in(&self.slots[self.sorted..], prefix) {
             None => None,
-            Some(slot) => {
-                if self.slots[slot].open {
-                    Some(slot)
-                } else {
-                    None
-                }
-            }
+            Some(slot) => Some(self.sorted + slot),
         }
     }
 
@@ -164,9 +162,10 @@ impl Waits {
     pub(crate) fn close(&mut self, slot: usize) -> (Told, bool)
         requires { slot < vec_len self.old.slots }
         ensures prefixes { prefixes_at self.new.slots.items ≡ prefixes_at self.old.slots.items }
-        ensures slots { (p : Prefix) → slice_get (prefixes_at self.old.slots.items) slot ≡ Some p → (q : Prefix) → open_at q self.new.slots.items ≡ (if eq_by_cmp prefix_order q p then None else open_at q self.old.slots.items) }
+        ensures shut { IsShut slot self.old.slots.items self.new.slots.items }
+        ensures slots { (w : Wait) → slice_get self.old.slots.items slot ≡ Some w → w.open ≡ true → (q : Prefix) → open_at q self.new.slots.items ≡ (if eq_by_cmp prefix_order q w.prefix then None else open_at q self.old.slots.items) }
         ensures told { (w : Wait) → slice_get self.old.slots.items slot ≡ Some w → (result.0 ≡ w.told) × (result.1 ≡ w.marked) }
-        ensures chained { (rows : List (Option Row)) → AreChained rows self.old.slots.items self.old.chains.items → AreChained rows self.new.slots.items self.new.chains.items }
+        ensures chained { (rows : List (Option Row)) → AreChained rows (take self.old.sorted self.old.slots.items) self.old.chains.items → AreChained rows (take self.new.sorted self.new.slots.items) self.new.chains.items }
         ensures count { open_count self.new.slots.items ≤ open_count self.old.slots.items }
         ensures withdrawn { withdrawn_count self.new.slots.items ≤ withdrawn_count self.old.slots.items }
         ensures capacity { vec_capacity self.new.slots ≡ vec_capacity self.old.slots }

@@ -27,6 +27,7 @@ use Rattle.rs_outlet.specs.Inside.{AreBacked, IsBacked, loc_of, numbers_from, pr
 use Rattle.rs_outlet.specs.Pending.Choosing.{passing, shares}
 use Rattle.rs_outlet.specs.Message.Next.{has_attributes, to_announce, to_withdraw}
 use Rattle.rs_outlet.proofs.Message.Chosen.{there_backed}
+use Rattle.rs_outlet.proofs.Pending.Apart.{distinct_apart}
 use Rattle.rs_outlet.proofs.Decided.LocByNumber.{by_number, numbered, same, same_itself}
 use Rattle.rs_adjin.proofs.Listed.{prefixes_total}
 
@@ -119,7 +120,7 @@ module _ (rows : List (Option Row)) (ws : List Wait) (m : List Attribute) (ins :
   asks_shares n d from to = go (get_or ws n d).open refl
     where
       go : (b : Bool) → (get_or ws n d).open ≡ b → (b && has_attributes (shown (row_by rows (get_or ws n d).due)) m) ≡ (b && asked (entry_of (get_or ws n d)))
-      go true opened = asks_due (get_or ws n d).prefix (get_or ws n d).due (there_backed rows ws n d (IsDistinct-from_sorted prefix_order (prefixes_at ws) up) backed to opened)
+      go true opened = asks_due (get_or ws n d).prefix (get_or ws n d).due (there_backed rows ws n d (distinct_apart ws (IsDistinct-from_sorted prefix_order (prefixes_at ws) up)) backed to opened)
       go false opened = refl
 
   pub all_sharing : (v : View) → v.waits ≡ waits_of ws → v.loc ≡ loc_of rows → to_announce v m ≡ passing (shares rows m) ws

@@ -18,14 +18,16 @@ use Rattle.rs_outlet.specs.declared.answers.Speech.{Speech}
 use Rattle.rs_outlet.specs.declared.rows.Row.{Row}
 use Rattle.rs_outlet.specs.declared.waiting.Wait.{Wait}
 use Rattle.rs_outlet.specs.Views.{View, AreNumbered, HaveNumbers}
-use Rattle.rs_outlet.specs.Pending.Slots.{open_at, prefixes_at, told_by, marked_told, is_withdrawal, is_withdrawn}
+use Rattle.rs_outlet.specs.Pending.Slots.{open_at, rising, told_by, marked_told, is_withdrawal, is_withdrawn}
 use Rattle.rs_outlet.specs.Inside.{AreBacked, told_over, marked_of, waits_of, loc_of, numbers_from, shown}
 use Rattle.std.specs.List.Sorted.{IsStrictlySortedBy}
 use Rattle.std.proofs.lemmas.Option.{same_Some}
-use Rattle.rs_outlet.proofs.Message.Rising.{least_chosen, prefixes_rise, rise_take}
+use Rattle.rs_outlet.proofs.Message.Rising.{least_chosen, up_take}
+use Rattle.rs_outlet.proofs.Pending.InOrder.{passing_up, rising_open, rising_up}
+use Rattle.rs_outlet.proofs.Pending.Unchanged.{backed_same, waits_same}
 use Rattle.rs_packer.specs.Packed.{announcement, withdrawal}
 use Rattle.rs_outlet.specs.Message.Next.{AreAsManyAsFit}
-use Rattle.rs_outlet.specs.Pending.Choosing.{AreChosen, IsFirst, IsInTurn, Rise, IsLegalSaid, NoneWithdrawn, is_said_there, message_of, MayUpdate, passing}
+use Rattle.rs_outlet.specs.Pending.Choosing.{AreChosen, IsFirst, IsInTurn, IsLegalSaid, NoneWithdrawn, is_said_there, message_of, MayUpdate, passing}
 use Rattle.rs_outlet.specs.Message.Begins.{AreLeastFirst, NoneGone, Settles, Withdraws, Announces, BeginsUpdate}
 use Rattle.rs_outlet.proofs.Decided.LocByNumber.{same, numbered, by_number}
 use Rattle.rs_outlet.proofs.Message.Chosen.{first_chosen}
@@ -96,7 +98,7 @@ pub record Shows (v : View) (rows : List (Option Row)) (ws : List Wait) : Type 0
   pub waits : v.waits ≡ waits_of ws
   pub numbers : (ins : AdjIns) → AreNumbered v ins → HaveNumbers (numbers_from 0 rows) ins
 
-module _ (speech : Speech) (v w : View) (rows : List (Option Row)) (ws ws' : List Wait) (old : Shows v rows ws) (new : Shows w rows ws') (up : IsStrictlySortedBy prefix_order (prefixes_at ws)) where
+module _ (speech : Speech) (v w : View) (rows : List (Option Row)) (ws ws' : List Wait) (old : Shows v rows ws) (new : Shows w rows ws') where
   settled : (ps : List Prefix) → ((q : Prefix) → open_at q ws' ≡ cond (list_any (same q) ps) None (open_at q ws)) → Settles v w ps
   settled ps is = record {
     told = λ q.
@@ -117,30 +119,33 @@ module _ (speech : Speech) (v w : View) (rows : List (Option Row)) (ws ws' : Lis
   some_taken : (n : ℕ) (ps : List Prefix) → 0 < n → n ≤ length ps → 0 < length (take n ps)
   some_taken n ps some within = omega (arith, length-take-le n ps within, some)
 
-  in_order : (said : Option (List Attribute)) (k : ℕ) (ns : List ℕ) (ps : List Prefix) → Rise ns → IsFirst said ws ns → AreChosen rows ws said (take k ns) (take k ps) → AreLeastFirst (λ q. fin.get v.waits q ≡ Some (is_none said)) (take k ps)
-  in_order said k ns ps rise first are = record {
-    rising = prefixes_rise rows ws up said (take k ns) (take k ps) (rise_take k ns rise) are;
-    least = λ p q head waits. least_chosen rows ws said k ns ps up first are p q head (sym (ap (λ t. fin.get t q) old.waits ∙ waits_at ws q) ∙ waits);
+  in_order : (said : Option (List Attribute)) (k : ℕ) (ps : List Prefix) → AreAsManyAsFit (message_of speech said) (limit_octets speech.limit) (passing (is_said_there rows said) (rising ws)) (take k ps) → IsFirst said ws ps → AreLeastFirst (λ q. fin.get v.waits q ≡ Some (is_none said)) (take k ps)
+  in_order said k ps all first = record {
+    rising = subst (IsStrictlySortedBy prefix_order) (sym all.front) (up_take (length (take k ps)) (passing (is_said_there rows said) (rising ws)) (passing_up (is_said_there rows said) (rising ws) (rising_up ws)));
+    least = λ p q head waits. least_chosen ws said k ps first p q head (sym (ap (λ t. fin.get t q) old.waits ∙ waits_at ws q) ∙ waits);
   }
+
+  waits_in_order : v.waits ≡ waits_of (rising ws)
+  waits_in_order = old.waits ∙ sym (waits_same (loc_of rows) ws (rising ws) (λ q. rising_open q ws))
 
   begun : (ns : List ℕ) (ps : List Prefix) (packed : Packed) (said : Option (List Attribute))
       → ((said : Option (List Attribute)) (qs : List Prefix) → AreChosen rows ws said (take packed.prefixes ns) qs → (q : Prefix) → open_at q ws' ≡ cond (list_any (same q) qs) None (open_at q ws))
-      → AreBacked rows ws → AreAsManyAsFit (message_of speech said) (limit_octets speech.limit) (passing (is_said_there rows said) ws) (take packed.prefixes ps)
-      → Rise ns → IsFirst said ws ns → AreChosen rows ws said ns ps → IsLegalSaid said → IsInTurn said ws → length w.flight ≤ limit_octets speech.limit → 0 < packed.prefixes → packed.prefixes ≤ length ps → w.flight ≡ message_of speech said (take packed.prefixes ps) → Withdraws speech v w ⊎ Announces speech v w
-  begun ns ps packed None gave backed all rise first are legal in_turn fits some within flight =
+      → AreBacked rows ws → AreAsManyAsFit (message_of speech said) (limit_octets speech.limit) (passing (is_said_there rows said) (rising ws)) (take packed.prefixes ps)
+      → IsFirst said ws ps → AreChosen rows ws said ns ps → IsLegalSaid said → IsInTurn said ws → length w.flight ≤ limit_octets speech.limit → 0 < packed.prefixes → packed.prefixes ≤ length ps → w.flight ≡ message_of speech said (take packed.prefixes ps) → Withdraws speech v w ⊎ Announces speech v w
+  begun ns ps packed None gave backed all first are legal in_turn fits some within flight =
       let some_chosen = first_chosen rows ws None packed.prefixes ns ps are in
       inl (record {
         prefixes = take packed.prefixes ps;
         some = some_taken packed.prefixes ps some within;
         prefixes_legal = chosen_legal rows ws None (take packed.prefixes ns) (take packed.prefixes ps) some_chosen;
         waited = subst (λ t. AllByRecursion (λ p. fin.get t p ≡ Some true) (take packed.prefixes ps)) (sym old.waits) (waited_withdrawn rows ws (take packed.prefixes ns) (take packed.prefixes ps) some_chosen);
-        order = in_order None packed.prefixes ns ps rise first some_chosen;
-        all = subst (λ qs. AreAsManyAsFit withdrawal (limit_octets speech.limit) qs (take packed.prefixes ps)) (sym (all_withdrawn v ws old.waits up)) all;
+        order = in_order None packed.prefixes ps all first;
+        all = subst (λ qs. AreAsManyAsFit withdrawal (limit_octets speech.limit) qs (take packed.prefixes ps)) (sym (all_withdrawn v (rising ws) waits_in_order (rising_up ws))) all;
         settles = settled (take packed.prefixes ps) (gave None (take packed.prefixes ps) some_chosen);
         flight = flight;
         fits = fits;
       })
-  begun ns ps packed (Some m) gave backed all rise first are legal in_turn fits some within flight =
+  begun ns ps packed (Some m) gave backed all first are legal in_turn fits some within flight =
       let some_chosen = first_chosen rows ws (Some m) packed.prefixes ns ps are in
       inr (record {
         gone = none_gone v ws old.waits in_turn;
@@ -150,11 +155,11 @@ module _ (speech : Speech) (v w : View) (rows : List (Option Row)) (ws ws' : Lis
         prefixes_legal = chosen_legal rows ws (Some m) (take packed.prefixes ns) (take packed.prefixes ps) some_chosen;
         legal = legal;
         waited = subst (λ t. AllByRecursion (λ p. fin.get t p ≡ Some false) (take packed.prefixes ps)) (sym old.waits) (waited_announced rows ws m (take packed.prefixes ns) (take packed.prefixes ps) some_chosen);
-        order = in_order (Some m) packed.prefixes ns ps rise first some_chosen;
+        order = in_order (Some m) packed.prefixes ps all first;
         due = λ ins are_numbered. subst (λ t. AllByRecursion (λ p. fin.get t p ≡ Some m) (take packed.prefixes ps)) (sym old.loc) (rows_due rows ws m ins (old.numbers ins are_numbered) (take packed.prefixes ns) (take packed.prefixes ps) some_chosen);
         all = λ ins are_numbered.
             subst (λ qs. AreAsManyAsFit (announcement m speech.mode) (limit_octets speech.limit) qs (take packed.prefixes ps))
-            (sym (all_sharing rows ws m ins (old.numbers ins are_numbered) up backed v old.waits old.loc)) all;
+            (sym (all_sharing rows (rising ws) m ins (old.numbers ins are_numbered) (rising_up ws) (backed_same rows ws (rising ws) (λ q. rising_open q ws) backed) v waits_in_order old.loc)) all;
         settles = settled (take packed.prefixes ps) (gave (Some m) (take packed.prefixes ps) some_chosen);
         flight = flight;
         fits = fits;
@@ -170,7 +175,7 @@ module _ (speech : Speech) (v w : View) (rows : List (Option Row)) (ws ws' : Lis
   })
   update_begun ns ps octets packed (inr is) most flight gave backed =
       let taken : length w.flight ≤ limit_octets speech.limit = omega (arith, ap length flight, length-take packed.octets octets, most) in
-      inr (begun ns ps packed is.said gave backed is.all is.rise is.first is.chosen is.legal is.in_turn taken is.written.some is.written.within (flight ∙ is.written.says))
+      inr (begun ns ps packed is.said gave backed is.all is.first is.chosen is.legal is.in_turn taken is.written.some is.written.within (flight ∙ is.written.says))
 
 -- what waits still has its row
 left_open : (b : Bool) (o : Option Wait) (w : Wait) → cond b None o ≡ Some w → o ≡ Some w
@@ -187,10 +192,10 @@ backed_left speech rows ws ws' ns ps octets packed (inr update) gave backed q w 
     backed q w (left_open (list_any (same q) qs) (open_at q ws) w (sym (gave update.said qs (first_chosen rows ws update.said packed.prefixes ns ps update.chosen) q) ∙ is))
 
 -- the same of what callers saw before
-pub update_seen : (speech spoken : Speech) (v v' w : View) (rows : List (Option Row)) (ws ws' : List Wait) → v ≡ v' → Some speech ≡ Some spoken → IsStrictlySortedBy prefix_order (prefixes_at ws) → Shows v rows ws → Shows w rows ws'
+pub update_seen : (speech spoken : Speech) (v v' w : View) (rows : List (Option Row)) (ws ws' : List Wait) → v ≡ v' → Some speech ≡ Some spoken → Shows v rows ws → Shows w rows ws'
     → (ns : List ℕ) (ps : List Prefix) (octets : List ℕ) (packed : Packed) → MayUpdate speech rows ws ns ps octets packed → packed.octets ≤ limit_octets speech.limit → w.flight ≡ take packed.octets octets
     → ((said : Option (List Attribute)) (qs : List Prefix) → AreChosen rows ws said (take packed.prefixes ns) qs → (q : Prefix) → open_at q ws' ≡ cond (list_any (same q) qs) None (open_at q ws))
     → AreBacked rows ws → BeginsUpdate spoken v' w
-update_seen speech spoken v v' w rows ws ws' is same_speech up old new ns ps octets packed may most flight gave backed =
+update_seen speech spoken v v' w rows ws ws' is same_speech old new ns ps octets packed may most flight gave backed =
     subst (λ (x : View). BeginsUpdate spoken x w) is
-    (subst (λ s. BeginsUpdate s v w) (same_Some speech spoken same_speech) (update_begun speech v w rows ws ws' old new up ns ps octets packed may most flight gave backed))
+    (subst (λ s. BeginsUpdate s v w) (same_Some speech spoken same_speech) (update_begun speech v w rows ws ws' old new ns ps octets packed may most flight gave backed))

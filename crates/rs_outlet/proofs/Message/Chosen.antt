@@ -1,9 +1,8 @@
 -- Slots chosen for a message: one more of them, and the first of them given up.
-use Rattle.std.proofs.Common.{◌≡◌, ◌+◌, ◌<◌, ◌≤◌, ℕ, zero, suc, Bool, true, false, cond, not, ◌&&◌, ◌||◌, Option, None, Some, List, [], ◌∷◌, ◌++◌, length, take, get_or, refl, sym, ap, ◌∙◌, subst, arith}
-use Rattle.std.specs.Prelude.{option_map, slice_get}
-use Rattle.std.proofs.lemmas.List.Elements.{All-from_all_within, recursion_from_All}
+use Rattle.std.proofs.Common.{◌≡◌, ◌+◌, ◌<◌, ◌≤◌, ℕ, zero, suc, Bool, true, false, cond, not, ◌&&◌, ◌||◌, Option, None, Some, List, [], ◌∷◌, ◌++◌, length, take, get_or, slice_set, refl, sym, ap, ◌∙◌, subst, arith, inl, inr}
+use Rattle.std.specs.Prelude.{◌⊎◌, option_map, slice_get}
 use mathlib.Core.Bool.{true≢false}
-use Rattle.std.specs.List.{AllByRecursion, HoldsAt, IsDistinct, list_any}
+use Rattle.std.specs.List.{list_any}
 use Rattle.rs_octets.specs.Prefixes.{Prefix, IsIpv4Prefix}
 use Rattle.rs_attrs.specs.Meaning.{Attribute}
 use Rattle.std.specs.Arc.{arc_value}
@@ -18,10 +17,13 @@ use Rattle.rs_outlet.specs.declared.rows.Row.{Row}
 use Rattle.rs_outlet.specs.declared.waiting.Due.{Due}
 use Rattle.rs_outlet.specs.declared.waiting.Due.TheVariants as due
 use Rattle.rs_outlet.specs.declared.waiting.Wait.{Wait}
-use Rattle.rs_outlet.specs.Pending.Slots.{prefixes_at, open_at, is_announced, is_withdrawn, is_withdrawal}
-use Rattle.rs_outlet.specs.Pending.Choosing.{HasRow, IsChosen, IsFound, AreChosen, NoneOpen, WaitsFor}
-use Rattle.rs_outlet.proofs.Decided.LocByNumber.{same}
-use Rattle.rs_outlet.proofs.Pending.Slots.{prefix_at, found_at}
+use Rattle.rs_outlet.specs.Pending.Slots.{AreApart, IsShut, open_at, is_announced, is_withdrawn, is_withdrawal}
+use Rattle.rs_outlet.specs.Pending.Choosing.{HasRow, IsChosen, IsLeast, AreChosen, NoneOpen, WaitsFor}
+use Rattle.rs_outlet.proofs.Decided.LocByNumber.{same, same_is, same_itself}
+use Rattle.rs_outlet.proofs.Pending.Apart.{found_apart, shut_again, shut_apart_at, stands_somewhere}
+use Rattle.rs_adjin.proofs.TableRows.{set_apart, set_here}
+use Rattle.std.proofs.lemmas.Bool.{cases_eq}
+use Rattle.std.proofs.lemmas.Option.{same_Some, slice_get_read, slice_get_within}
 
 none_both : {A : Type 0} (b : Bool) → ◌≡◌ {A = Option A} (cond b None None) None
 none_both true = refl
@@ -56,20 +58,72 @@ module _ (rows : List (Option Row)) (ws : List Wait) (said : Option (List Attrib
   first_chosen (suc k) (n ∷ ns) [] are = absurd are
   first_chosen (suc k) (n ∷ ns) (p ∷ ps) are = (are.0, first_chosen k ns ps are.1)
 
-  -- the prefix of the next slot
+  -- the next slot
   pub next_chosen : (ns : List ℕ) (ps : List Prefix) (i d : ℕ) → AreChosen rows ws said ns ps → i < length ns
-      → (p : Prefix) × (slice_get (prefixes_at ws) (get_or ns i d) ≡ Some p) × ((q : Prefix) → list_any (same q) (take (i + 1) ps) ≡ (list_any (same q) (take i ps) || same q p))
+      → (w : Wait) × (slice_get ws (get_or ns i d) ≡ Some w) × (w.open ≡ true) × ((q : Prefix) → list_any (same q) (take (i + 1) ps) ≡ (list_any (same q) (take i ps) || same q w.prefix))
   next_chosen [] ps i d are below = absurd (omega (arith, below))
   next_chosen (n ∷ ns) [] i d are below = absurd are
-  next_chosen (n ∷ ns) (p ∷ ps) zero d are below = (p, are.0.at, λ q. or-false (same q p))
+  next_chosen (n ∷ ns) (p ∷ ps) zero d are below = (are.0.wait, are.0.at, are.0.opened, λ q. or-false (same q p) ∙ ap (same q) (sym are.0.prefix))
   next_chosen (n ∷ ns) (p ∷ ps) (suc i) d are below =
       let r = next_chosen ns ps i d are.1 (omega (arith, below)) in
       let e : suc i + 1 ≡ suc (i + 1) = omega arith in
-      (r.0, r.1, λ q. ap (λ k. list_any (same q) (take k (p ∷ ps))) e ∙ or_more (same q p) (list_any (same q) (take (i + 1) ps)) (list_any (same q) (take i ps)) (same q r.0) (r.2 q))
+      (r.0, r.1, r.2, λ q. ap (λ k. list_any (same q) (take k (p ∷ ps))) e ∙ or_more (same q p) (list_any (same q) (take (i + 1) ps)) (list_any (same q) (take i ps)) (same q r.0.prefix) (r.3 q))
     where
       or_more : (a b c e : Bool) → b ≡ (c || e) → (a || b) ≡ ((a || c) || e)
       or_more true b c e h = refl
       or_more false b c e h = h
+
+-- the slots left, as some are given up: each stands as it was, or it waits no more and nothing of its prefix does
+abbrev pub AreLeft : List Wait → List Wait → Type 0
+AreLeft old now = (n : ℕ) (w : Wait) → slice_get old n ≡ Some w → w.open ≡ true → (slice_get now n ≡ Some w) ⊎ ((v : Wait) × (slice_get now n ≡ Some v) × (v.open ≡ false) × (open_at w.prefix now ≡ None))
+
+module _ (old now new : List Wait) (apart : AreApart now) (left : AreLeft old now) (n : ℕ) (w : Wait) (at : slice_get old n ≡ Some w) (opened : w.open ≡ true) (shut : IsShut n now new) where
+  nothing_of : open_at w.prefix now ≡ None → (q : Prefix) (b : Bool) → same q w.prefix ≡ b → open_at q now ≡ cond b None (open_at q now)
+  nothing_of none q true is = ap (λ p. open_at p now) (same_is q w.prefix is) ∙ none
+  nothing_of none q false is = refl
+
+  -- what waits once it is given up
+  pub given_up_one : (q : Prefix) → open_at q new ≡ cond (same q w.prefix) None (open_at q now)
+  given_up_one q = by_left (left n w at opened) shut
+    where
+      by_left : (slice_get now n ≡ Some w) ⊎ ((v : Wait) × (slice_get now n ≡ Some v) × (v.open ≡ false) × (open_at w.prefix now ≡ None)) → IsShut n now new → open_at q new ≡ cond (same q w.prefix) None (open_at q now)
+      by_left (inl here) (inl past) = absurd (omega (arith, past.0, slice_get_within now n w here))
+      by_left (inl here) (inr it) = ap (open_at q) it.4 ∙ shut_apart_at now n w it.1 apart here opened it.3 q
+      by_left (inr shut_slot) (inl past) = absurd (omega (arith, past.0, slice_get_within now n shut_slot.0 shut_slot.1))
+      by_left (inr shut_slot) (inr it) = ap (open_at q) it.4 ∙ shut_again now n shut_slot.0 it.1 shut_slot.1 shut_slot.2 it.3 q ∙ nothing_of shut_slot.3 q (same q w.prefix) refl
+
+  stays_none : (b : Bool) (o : Option Wait) → o ≡ None → cond b None o ≡ None
+  stays_none true o none = refl
+  stays_none false o none = none
+
+  set_slot : IsShut n now new → (v : Wait) → slice_get now n ≡ Some v → (y : Wait) × (y.open ≡ false) × (new ≡ slice_set now n y)
+  set_slot (inl past) v here = absurd (omega (arith, past.0, slice_get_within now n v here))
+  set_slot (inr it) v here = (it.1, it.3, it.4)
+
+  some_there : (slice_get now n ≡ Some w) ⊎ ((v : Wait) × (slice_get now n ≡ Some v) × (v.open ≡ false) × (open_at w.prefix now ≡ None)) → (v : Wait) × (slice_get now n ≡ Some v)
+  some_there (inl here) = (w, here)
+  some_there (inr it) = (it.0, it.1)
+
+  pub left_one : AreLeft old new
+  left_one m z z_at z_open =
+      let there = some_there (left n w at opened) in
+      let set = set_slot shut there.0 there.1 in
+      elim (cases_eq m n) [
+        | inl e ↦
+            let same_slot : w ≡ z = same_Some w z (sym at ∙ ap (slice_get old) (sym e) ∙ z_at) in
+            inr (
+              set.0,
+              ap (slice_get new) e ∙ ap (λ ws. slice_get ws n) set.2 ∙ set_here now n set.0 there.0 there.1,
+              set.1,
+              given_up_one z.prefix ∙ ap (λ b. cond b None (open_at z.prefix now)) (ap (λ (v : Wait). same z.prefix v.prefix) same_slot ∙ same_itself z.prefix),
+            )
+        | inr ne ↦
+            let kept : slice_get new m ≡ slice_get now m = ap (λ ws. slice_get ws m) set.2 ∙ set_apart now n set.0 m ne in
+            elim (left m z z_at z_open) [
+              | inl here ↦ inl (kept ∙ here)
+              | inr it ↦ inr (it.0, kept ∙ it.1, it.2, given_up_one z.prefix ∙ stays_none (same z.prefix w.prefix) (open_at z.prefix now) it.3)
+            ]
+      ]
 
 -- one slot more given up
 pub given_up_more : (q p : Prefix) (ps : List Prefix) (i : ℕ) (old mid new : List Wait) → list_any (same q) (take (i + 1) ps) ≡ (list_any (same q) (take i ps) || same q p) → open_at q mid ≡ cond (list_any (same q) (take i ps)) None (open_at q old) → open_at q new ≡ cond (same q p) None (open_at q mid) → open_at q new ≡ cond (list_any (same q) (take (i + 1) ps)) None (open_at q old)
@@ -81,14 +135,16 @@ given_up_more q p ps i old mid new any was is =
 said_withdrawn : (w : Wait) → is_withdrawn w ≡ true → (w.open ≡ true) × (is_withdrawal w.due ≡ true)
 said_withdrawn w h = and_parts w.open (is_withdrawal w.due) h
 
-pub chosen_withdrawn : (rows : List (Option Row)) (ws : List Wait) (n : ℕ) (w : Wait) → IsDistinct same (prefixes_at ws) → n < length ws → w ≡ get_or ws n w → IsIpv4Prefix w.prefix → is_withdrawn w ≡ true → IsChosen rows ws None n w.prefix
-chosen_withdrawn rows ws n w apart below at legal h =
+pub chosen_withdrawn : (rows : List (Option Row)) (ws : List Wait) (n : ℕ) (w : Wait) → AreApart ws → n < length ws → w ≡ get_or ws n w → IsIpv4Prefix w.prefix → is_withdrawn w ≡ true → IsChosen rows ws None n w.prefix
+chosen_withdrawn rows ws n w apart below is legal h =
     let s = said_withdrawn w h in
-    record { wait = w; at = prefix_at ws n w below at; waits = found_at ws n w below at s.0 apart; legal = legal; is = s.1 }
+    let at : slice_get ws n ≡ Some w = slice_get_read ws (length ws) n w refl below is in
+    record { wait = w; at = at; prefix = refl; opened = s.0; waits = found_apart ws n w apart at s.0; legal = legal; is = s.1 }
 
-pub chosen_announced : (rows : List (Option Row)) (ws : List Wait) (n : ℕ) (w : Wait) (m : List Attribute) → IsDistinct same (prefixes_at ws) → n < length ws → w ≡ get_or ws n w → IsIpv4Prefix w.prefix → w.open ≡ true → is_withdrawal w.due ≡ false → HasRow rows w.prefix m → IsChosen rows ws (Some m) n w.prefix
-chosen_announced rows ws n w m apart below at legal opened said row =
-    record { wait = w; at = prefix_at ws n w below at; waits = found_at ws n w below at opened apart; legal = legal; is = (said, row) }
+pub chosen_announced : (rows : List (Option Row)) (ws : List Wait) (n : ℕ) (w : Wait) (m : List Attribute) → AreApart ws → n < length ws → w ≡ get_or ws n w → IsIpv4Prefix w.prefix → w.open ≡ true → is_withdrawal w.due ≡ false → HasRow rows w.prefix m → IsChosen rows ws (Some m) n w.prefix
+chosen_announced rows ws n w m apart below is legal opened said row =
+    let at : slice_get ws n ≡ Some w = slice_get_read ws (length ws) n w refl below is in
+    record { wait = w; at = at; prefix = refl; opened = opened; waits = found_apart ws n w apart at opened; legal = legal; is = (said, row) }
 
 pub none_chosen : (rows : List (Option Row)) (ws : List Wait) (said : Option (List Attribute)) (ns : List ℕ) (ps : List Prefix) → ns ≡ [] → ps ≡ [] → AreChosen rows ws said ns ps
 none_chosen rows ws said [] [] a b = tt
@@ -119,18 +175,12 @@ either_way w opened a b = go (is_withdrawal w.due) (sym (ap (λ o. o && is_withd
     go true e f = true≢false e
     go false e f = true≢false f
 
-nothing_open : (ws : List Wait) → AllByRecursion (λ w. is_withdrawn w ≡ false) ws → AllByRecursion (λ w. is_announced w ≡ false) ws → NoneOpen ws
-nothing_open [] h k q = refl
-nothing_open (w ∷ ws) h k q =
-    elim w.open as (λ b. w.open ≡ b → cond (b && same q w.prefix) (Some w) (open_at q ws) ≡ None) [
-      | true ↦ λ t. absurd (either_way w t h.0 k.0)
-      | false ↦ λ _. nothing_open ws h.1 k.1 q
-    ] refl
-
-pub nothing_waits : (ws : List Wait) → IsFound is_withdrawn ws None → IsFound is_announced ws None → NoneOpen ws
-nothing_waits ws h k =
-    nothing_open ws (recursion_from_All (λ w. is_withdrawn w ≡ false) ws (All-from_all_within (λ w. is_withdrawn w ≡ false) ws h))
-    (recursion_from_All (λ w. is_announced w ≡ false) ws (All-from_all_within (λ w. is_announced w ≡ false) ws k))
+pub nothing_waits : (ws : List Wait) → IsLeast is_withdrawn ws None → IsLeast is_announced ws None → NoneOpen ws
+nothing_waits ws h k q = go (open_at q ws) refl
+  where
+    go : (o : Option Wait) → open_at q ws ≡ o → o ≡ None
+    go None is = refl
+    go (Some w) is = let s = stands_somewhere q ws w is in absurd (either_way w s.2 (h s.0 w s.1) (k s.0 w s.1))
 
 -- ---- the first slot to be announced
 
@@ -142,28 +192,22 @@ element (w ∷ ws) (suc n) below = element ws n (omega (arith, below))
 news_of : (w : Wait) → is_announced w ≡ true → (w.open ≡ true) × (not (is_withdrawal w.due) ≡ true)
 news_of w h = and_parts w.open (not (is_withdrawal w.due)) h
 
-pub there_backed : (rows : List (Option Row)) (ws : List Wait) (n : ℕ) (d : Wait) → IsDistinct same (prefixes_at ws) → AreBacked rows ws → n < length ws → (get_or ws n d).open ≡ true → IsBacked rows (get_or ws n d).prefix (get_or ws n d).due
+pub there_backed : (rows : List (Option Row)) (ws : List Wait) (n : ℕ) (d : Wait) → AreApart ws → AreBacked rows ws → n < length ws → (get_or ws n d).open ≡ true → IsBacked rows (get_or ws n d).prefix (get_or ws n d).due
 there_backed rows ws n d apart backed below opened =
     let w = get_or ws n d in
-    backed w.prefix w (found_at ws n w below (get_or_default ws n d w below) opened apart)
+    backed w.prefix w (found_apart ws n w apart (slice_get_read ws (length ws) n w refl below (get_or_default ws n d w below)) opened)
 
 has_row : (rows : List (Option Row)) (p : Prefix) (d : Due) → IsBacked rows p d → not (is_withdrawal d) ≡ true → row_by rows d ≡ None → ⊥
 has_row rows p due.Withdrawn backed news none = true≢false (sym news)
 has_row rows p (due.Announced number hash) backed news none = absurd (let f : ◌≡◌ {A = Option (Prefix × ℕ)} None (Some (p, hash)) = sym (ap (option_map prefix_and_hash) none) ∙ backed in (cc))
 
-module _ (rows : List (Option Row)) (ws : List Wait) (n : ℕ) (apart : IsDistinct same (prefixes_at ws)) (backed : AreBacked rows ws) (found : IsFound is_announced ws (Some n)) where
-  -- it has a row
-  pub first_row : HoldsAt (λ w. None ≡ row_by rows w.due) ws n → ⊥
-  first_row none =
-      let d = element ws n found.0 in
-      let news = news_of (get_or ws n d) (found.1 d) in
-      has_row rows (get_or ws n d).prefix (get_or ws n d).due (there_backed rows ws n d apart backed found.0 news.0) news.1 (sym (none d))
+module _ (rows : List (Option Row)) (ws : List Wait) (n : ℕ) (w : Wait) (apart : AreApart ws) (backed : AreBacked rows ws) (at : slice_get ws n ≡ Some w) (is : is_announced w ≡ true) where
+  here_backed : IsBacked rows w.prefix w.due
+  here_backed = backed w.prefix w (found_apart ws n w apart at (news_of w is).0)
 
-  pub first_waits : (m : List Attribute) (o : Option Row) → option_map (λ (r : Row). arc_value r.attrs) o ≡ Some m → HoldsAt (λ w. o ≡ row_by rows w.due) ws n → HoldsAt (WaitsFor rows m) ws n
-  first_waits m o value at d =
-      let news = news_of (get_or ws n d) (found.1 d) in
-      record {
-        opened = news.0;
-        backed = there_backed rows ws n d apart backed found.0 news.0;
-        said = sym (ap (option_map (λ (r : Row). arc_value r.attrs)) (at d)) ∙ value;
-      }
+  -- it has a row
+  pub first_row : None ≡ row_by rows w.due → ⊥
+  first_row none = has_row rows w.prefix w.due here_backed (news_of w is).1 (sym none)
+
+  pub first_waits : (m : List Attribute) → option_map (λ (r : Row). arc_value r.attrs) (row_by rows w.due) ≡ Some m → WaitsFor rows m w
+  first_waits m value = record { opened = (news_of w is).0; backed = here_backed; said = value }

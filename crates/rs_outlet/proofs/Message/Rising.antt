@@ -1,152 +1,140 @@
--- The slots listed for a message rise, and with them the prefixes; the first of them is the least that waits for the like.
-use Rattle.std.proofs.Common.{◌≡◌, ◌≢◌, ◌<◌, ◌≤◌, ℕ, zero, suc, Bool, true, false, cond, not, ◌&&◌, Option, None, Some, List, [], ◌∷◌, ◌++◌, take, refl, sym, ap, ◌∙◌, subst, arith, inl, inr}
+-- The prefixes of a message rise, and the first of them is the least that waits for the like.
+use Rattle.std.proofs.Common.{◌≡◌, ◌≢◌, ◌<◌, ◌≤◌, ℕ, zero, suc, Bool, true, false, cond, not, ◌&&◌, Option, None, Some, List, [], ◌∷◌, length, take, get_or, refl, sym, ap, ◌∙◌, subst, arith, inl, inr}
 use Rattle.std.specs.Prelude.{is_none, option_map, slice_get}
-use mathlib.Core.Bool.{true≢false}
+use Rattle.std.specs.Arc.{arc_value}
 use Rattle.std.specs.List.{AllByRecursion, AllWithin}
 use Rattle.std.specs.List.Sorted.{IsStrictlySortedBy}
-use Rattle.std.specs.declared.cmp.Ordering.TheVariants.{Less, Equal}
-use Rattle.std.proofs.lemmas.Cmp.{tied_itself}
+use Rattle.std.specs.Ordering.{ordering_reverse}
+use Rattle.std.specs.declared.cmp.Ordering.{Ordering}
+use Rattle.std.specs.declared.cmp.Ordering.TheVariants.{Less, Equal, Greater}
 use Rattle.std.proofs.lemmas.Bool.{and_parts}
-use Rattle.std.proofs.lemmas.Option.{same_Some}
+use Rattle.std.proofs.lemmas.List.{get_or_default}
+use Rattle.std.proofs.lemmas.Option.{same_Some, slice_get_read}
 use Rattle.rs_octets.specs.Prefixes.{Prefix, prefix_order}
 use Rattle.rs_attrs.specs.Meaning.{Attribute}
+use Rattle.rs_attrs.specs.ComparisonLaws.{attributes_decides}
+use Rattle.rs_adjin.proofs.Listed.{prefixes_total, exact_prefixes}
 use Rattle.rs_outlet.specs.declared.rows.Row.{Row}
+use Rattle.rs_outlet.specs.declared.waiting.Due.{Due}
+use Rattle.rs_outlet.specs.declared.waiting.Due.TheVariants as due
 use Rattle.rs_outlet.specs.declared.waiting.Wait.{Wait}
-use Rattle.rs_outlet.specs.Pending.Choosing.{AreChosen, IsFirst, MayList, Rise, is_said}
-use Rattle.rs_outlet.specs.Pending.Slots.{is_withdrawal, open_at, prefixes_at}
-use Rattle.rs_outlet.proofs.Decided.LocByNumber.{same, same_is}
-use Rattle.rs_outlet.proofs.Pending.Backing.{open_is}
-use Rattle.rs_adjin.proofs.Listed.{prefixes_total}
+use Rattle.rs_outlet.specs.Inside.{row_by, shown}
+use Rattle.rs_outlet.specs.Message.Next.{has_attributes}
+use Rattle.rs_outlet.specs.Pending.Choosing.{AnyPasses, IsFirst, IsLeast, IsLeastOf, NoneBefore, NoneWithdrawn, WaitsFor, is_said, passing, shares}
+use Rattle.rs_outlet.specs.Pending.Slots.{AreApart, is_announced, is_withdrawal, is_withdrawn, open_at, rising}
+use Rattle.rs_outlet.proofs.Decided.LocByNumber.{same, same_is, same_itself}
+use Rattle.rs_outlet.proofs.Message.Chosen.{element}
+use Rattle.rs_outlet.proofs.Pending.Apart.{stands_somewhere}
+use Rattle.rs_outlet.proofs.Pending.InOrder.{above_head, in_cases, in_here, in_order_from, in_order_in, is_in, never_less, not_both, passing_up, rising_up}
 
--- ---- numbers listed
+-- ---- the front of prefixes that rise
 
-abbrev pub AreBelow : ℕ → List ℕ → Type 0
-AreBelow k ns = AllByRecursion (λ n. n < k) ns
+take_above : (x : Prefix) (k : ℕ) (ps : List Prefix) → AllByRecursion (λ p. prefix_order x p ≡ Less) ps → AllByRecursion (λ p. prefix_order x p ≡ Less) (take k ps)
+take_above x zero ps above = tt
+take_above x (suc k) [] above = tt
+take_above x (suc k) (p ∷ ps) above = (above.0, take_above x k ps above.1)
 
-below_later : (k m : ℕ) (ns : List ℕ) → k ≤ m → AreBelow k ns → AreBelow m ns
-below_later k m [] h below = tt
-below_later k m (n ∷ ns) h below = (let b : n < k = below.0 in omega (arith, b, h), below_later k m ns h below.1)
-
-below_push : (k m : ℕ) (ns : List ℕ) → k < m → AreBelow k ns → AreBelow m (ns ++ k ∷ [])
-below_push k m [] h below = (h, tt)
-below_push k m (n ∷ ns) h below = (let b : n < k = below.0 in omega (arith, b, h), below_push k m ns h below.1)
-
-above_push : (n k : ℕ) (ns : List ℕ) → n < k → AllByRecursion (λ m. n < m) ns → AllByRecursion (λ m. n < m) (ns ++ k ∷ [])
-above_push n k [] h above = (h, tt)
-above_push n k (m ∷ ns) h above = (above.0, above_push n k ns h above.1)
-
-rise_push : (k : ℕ) (ns : List ℕ) → Rise ns → AreBelow k ns → Rise (ns ++ k ∷ [])
-rise_push k [] rise below = (tt, tt)
-rise_push k (n ∷ ns) rise below = (above_push n k ns below.0 rise.0, rise_push k ns rise.1 below.1)
-
-pub rise_more : (k m : ℕ) (old new : List ℕ) → MayList k old new → k < m → Rise old → AreBelow k old → Rise new × AreBelow m new
-rise_more k m old new (inl stays) h rise below = (subst Rise (sym stays) rise, subst (AreBelow m) (sym stays) (below_later k m old (omega (arith, h)) below))
-rise_more k m old new (inr added) h rise below = (subst Rise (sym added) (rise_push k old rise below), subst (AreBelow m) (sym added) (below_push k m old h below))
-
-pub none_listed : (k : ℕ) (ns : List ℕ) → ns ≡ [] → Rise ns × AreBelow k ns
-none_listed k [] none = (tt, tt)
-none_listed k (n ∷ ns) none = absurd (cc)
-
-head_push : (f k : ℕ) (ns : List ℕ) → slice_get ns 0 ≡ Some f → slice_get (ns ++ k ∷ []) 0 ≡ Some f
-head_push f k [] h = absurd (cc)
-head_push f k (n ∷ ns) h = h
-
-pub head_more : (f k : ℕ) (old new : List ℕ) → MayList k old new → slice_get old 0 ≡ Some f → slice_get new 0 ≡ Some f
-head_more f k old new (inl stays) h = ap (λ ns. slice_get ns 0) stays ∙ h
-head_more f k old new (inr added) h = ap (λ ns. slice_get ns 0) added ∙ head_push f k old h
-
-pub head_first : (k : ℕ) (old new : List ℕ) → old ≡ [] → new ≡ old ++ k ∷ [] → slice_get new 0 ≡ Some k
-head_first k old new none added = ap (λ ns. slice_get ns 0) (added ∙ ap (λ ns. ns ++ k ∷ []) none)
-
-above_take : (n k : ℕ) (ns : List ℕ) → AllByRecursion (λ m. n < m) ns → AllByRecursion (λ m. n < m) (take k ns)
-above_take n zero ns above = tt
-above_take n (suc k) [] above = tt
-above_take n (suc k) (m ∷ ns) above = (above.0, above_take n k ns above.1)
-
-pub rise_take : (k : ℕ) (ns : List ℕ) → Rise ns → Rise (take k ns)
-rise_take zero ns rise = tt
-rise_take (suc k) [] rise = tt
-rise_take (suc k) (n ∷ ns) rise = (above_take n k ns rise.0, rise_take k ns rise.1)
-
-pub head_take : (k : ℕ) (ns : List ℕ) (f : ℕ) → slice_get (take k ns) 0 ≡ Some f → slice_get ns 0 ≡ Some f
-head_take zero ns f h = absurd (cc)
-head_take (suc k) [] f h = absurd (cc)
-head_take (suc k) (n ∷ ns) f h = h
-
--- ---- their prefixes
-
-above_at : (x q : Prefix) (ps : List Prefix) (n : ℕ) → AllByRecursion (λ p. prefix_order x p ≡ Less) ps → slice_get ps n ≡ Some q → prefix_order x q ≡ Less
-above_at x q [] zero h is = absurd (cc)
-above_at x q [] (suc n) h is = absurd (cc)
-above_at x q (p ∷ ps) zero h is = ap (prefix_order x) (sym (same_Some p q is)) ∙ h.0
-above_at x q (p ∷ ps) (suc n) h is = above_at x q ps n h.1 is
-
-later_greater : (ps : List Prefix) (n m : ℕ) (p q : Prefix) → IsStrictlySortedBy prefix_order ps → n < m → slice_get ps n ≡ Some p → slice_get ps m ≡ Some q → prefix_order p q ≡ Less
+pub up_take : (k : ℕ) (ps : List Prefix) → IsStrictlySortedBy prefix_order ps → IsStrictlySortedBy prefix_order (take k ps)
 unfolding IsStrictlySortedBy
-later_greater [] zero m p q up h a b = absurd (cc)
-later_greater [] (suc n) m p q up h a b = absurd (cc)
-later_greater (x ∷ ps) zero zero p q up h a b = absurd (omega (arith, h))
-later_greater (x ∷ ps) zero (suc m) p q up h a b = ap (λ r. prefix_order r q) (sym (same_Some x p a)) ∙ above_at x q ps m up.0 b
-later_greater (x ∷ ps) (suc n) zero p q up h a b = absurd (omega (arith, h))
-later_greater (x ∷ ps) (suc n) (suc m) p q up h a b = later_greater ps n m p q up.1 (omega (arith, h)) a b
+up_take zero ps up = tt
+up_take (suc k) [] up = tt
+up_take (suc k) (p ∷ ps) up = (take_above p k ps up.0, up_take k ps up.1)
 
-module _ (rows : List (Option Row)) (ws : List Wait) (up : IsStrictlySortedBy prefix_order (prefixes_at ws)) (said : Option (List Attribute)) where
-  above_first : (n : ℕ) (p : Prefix) (ns : List ℕ) (ps : List Prefix) → slice_get (prefixes_at ws) n ≡ Some p → AllByRecursion (λ m. n < m) ns → AreChosen rows ws said ns ps → AllByRecursion (λ q. prefix_order p q ≡ Less) ps
-  above_first n p [] [] at above are = tt
-  above_first n p [] (q ∷ ps) at above are = absurd are
-  above_first n p (m ∷ ns) [] at above are = absurd are
-  above_first n p (m ∷ ns) (q ∷ ps) at above are = (later_greater (prefixes_at ws) n m p q up above.0 at are.0.at, above_first n p ns ps at above.1 are.1)
+head_take : (k : ℕ) (ps : List Prefix) (p : Prefix) → slice_get (take k ps) 0 ≡ Some p → slice_get ps 0 ≡ Some p
+head_take zero ps p h = absurd (cc)
+head_take (suc k) [] p h = absurd (cc)
+head_take (suc k) (q ∷ ps) p h = h
 
-  pub prefixes_rise : (ns : List ℕ) (ps : List Prefix) → Rise ns → AreChosen rows ws said ns ps → IsStrictlySortedBy prefix_order ps
-  unfolding IsStrictlySortedBy
-  prefixes_rise [] [] rise are = tt
-  prefixes_rise [] (p ∷ ps) rise are = absurd are
-  prefixes_rise (n ∷ ns) [] rise are = absurd are
-  prefixes_rise (n ∷ ns) (p ∷ ps) rise are = (above_first n p ns ps are.0.at rise.0 are.1, prefixes_rise ns ps rise.1 are.1)
+head_in : (ps : List Prefix) (p : Prefix) → slice_get ps 0 ≡ Some p → is_in p ps ≡ true
+head_in [] p h = absurd (cc)
+head_in (q ∷ ps) p h = in_here p q ps (ap (same p) (same_Some q p h) ∙ same_itself p)
 
--- ---- the least of them
+-- none of them comes before the first
+head_least : (k : ℕ) (ps : List Prefix) (p q : Prefix) → IsStrictlySortedBy prefix_order ps → slice_get (take k ps) 0 ≡ Some p → is_in q ps ≡ true → prefix_order q p ≢ Less
+head_least zero ps p q up head there less = absurd (let f = head in cc)
+head_least (suc k) [] p q up head there less = absurd (let f : false ≡ true = there in cc)
+head_least (suc k) (x ∷ ps) p q up head there less = elim (in_cases q x ps there) [
+  | inl is ↦ never_less p (ap (λ r. prefix_order r p) (sym (same_is q x is ∙ same_Some x p head)) ∙ less)
+  | inr later ↦ not_both p q (ap (λ r. prefix_order r q) (sym (same_Some x p head)) ∙ above_head x q ps up later) less
+]
 
-not_less_itself : (p : Prefix) → prefix_order p p ≡ Less → ⊥
-not_less_itself p h = let f : Less ≡ Equal = sym h ∙ tied_itself prefixes_total p in cc
+some_taken : (k : ℕ) (ps : List Prefix) (q : Prefix) → 0 < k → is_in q ps ≡ true → 0 < length (take k ps)
+some_taken zero ps q more there = absurd (omega (arith, more))
+some_taken (suc k) [] q more there = absurd (let f : false ≡ true = there in cc)
+some_taken (suc k) (p ∷ ps) q more there = omega arith
 
-open_after : (x : Prefix) (q : Prefix) (w : Wait) (ws : List Wait) → AllByRecursion (λ p. prefix_order x p ≡ Less) (prefixes_at ws) → open_at q ws ≡ Some w → prefix_order x q ≡ Less
-open_after x q w [] above is = absurd (cc)
-open_after x q w (v ∷ ws) above is =
-    elim (v.open && same q v.prefix) as (λ b. (v.open && same q v.prefix) ≡ b → cond b (Some v) (open_at q ws) ≡ Some w → prefix_order x q ≡ Less) [
-      | true ↦ λ t _. ap (prefix_order x) (same_is q v.prefix (and_parts v.open (same q v.prefix) t).1) ∙ above.0
-      | false ↦ λ _ e. open_after x q w ws above.1 e
-    ] refl is
+neither_less : (p q : Prefix) → prefix_order p q ≢ Less → prefix_order q p ≢ Less → p ≡ q
+neither_less p q a b = go (prefix_order p q) refl
+  where
+    go : (o : Ordering) → prefix_order p q ≡ o → p ≡ q
+    go Less h = absurd (a h)
+    go Equal h = exact_prefixes p q h
+    go Greater h = absurd (b (prefixes_total.antisymm q p ∙ ap ordering_reverse h))
 
-pub least_open : (test : Wait → Bool) (ws : List Wait) (n : ℕ) (p : Prefix) → IsStrictlySortedBy prefix_order (prefixes_at ws) → slice_get (prefixes_at ws) n ≡ Some p → AllWithin (λ w. test w ≡ false) ws 0 n
-    → (q : Prefix) (w : Wait) → open_at q ws ≡ Some w → test w ≡ true → prefix_order q p ≢ Less
-unfolding IsStrictlySortedBy
-least_open test [] zero p up at before q w is t less = absurd (cc)
-least_open test [] (suc n) p up at before q w is t less = absurd (cc)
-least_open test (x ∷ ws) zero p up at before q w is t less =
-    elim (x.open && same q x.prefix) as (λ b. (x.open && same q x.prefix) ≡ b → cond b (Some x) (open_at q ws) ≡ Some w → ⊥) [
-      | true ↦ λ _ e. not_less_itself p (sym (ap (λ r. prefix_order r p) (same_is q w.prefix (open_is q w (x ∷ ws) is) ∙ ap (λ (v : Wait). v.prefix) (sym (same_Some x w e)) ∙ same_Some x.prefix p at)) ∙ less)
-      | false ↦ λ _ e. not_less_itself p (prefixes_total.trans p q p (ap (λ r. prefix_order r q) (sym (same_Some x.prefix p at)) ∙ open_after x.prefix q w ws up.0 e) less)
-    ] refl is
-least_open test (x ∷ ws) (suc n) p up at before q w is t less =
-    elim (x.open && same q x.prefix) as (λ b. (x.open && same q x.prefix) ≡ b → cond b (Some x) (open_at q ws) ≡ Some w → ⊥) [
-      | true ↦ λ _ e. true≢false (sym t ∙ ap test (sym (same_Some x w e)) ∙ before 0 x (omega arith) (omega arith))
-      | false ↦ λ _ e. least_open test ws n p up.1 at (λ k d low high. before (suc k) d (omega arith) (omega (arith, high))) q w e t less
-    ] refl is
+-- ---- slots found first
 
-pub head_chosen : (rows : List (Option Row)) (ws : List Wait) (said : Option (List Attribute)) (ns : List ℕ) (ps : List Prefix) (p : Prefix) → AreChosen rows ws said ns ps → slice_get ps 0 ≡ Some p
-    → (n : ℕ) × (slice_get ns 0 ≡ Some n) × (slice_get (prefixes_at ws) n ≡ Some p)
-head_chosen rows ws said [] [] p are h = absurd (cc)
-head_chosen rows ws said [] (q ∷ ps) p are h = absurd are
-head_chosen rows ws said (n ∷ ns) [] p are h = absurd are
-head_chosen rows ws said (n ∷ ns) (q ∷ ps) p are h = (n, refl, are.0.at ∙ h)
+pub withdrawn_opens : (w : Wait) → is_withdrawn w ≡ true → w.open ≡ true
+withdrawn_opens w is = (and_parts w.open (is_withdrawal w.due) is).0
 
-open_itself : (q : Prefix) (w : Wait) (ws : List Wait) → open_at q ws ≡ Some w → w.open ≡ true
-open_itself q w [] is = absurd (cc)
-open_itself q w (v ∷ ws) is =
-    elim (v.open && same q v.prefix) as (λ b. (v.open && same q v.prefix) ≡ b → cond b (Some v) (open_at q ws) ≡ Some w → w.open ≡ true) [
-      | true ↦ λ t e. ap (λ (x : Wait). x.open) (sym (same_Some v w e)) ∙ (and_parts v.open (same q v.prefix) t).0
-      | false ↦ λ _ e. open_itself q w ws e
-    ] refl is
+pub shared_opens : (rows : List (Option Row)) (m : List Attribute) (w : Wait) → shares rows m w ≡ true → w.open ≡ true
+shared_opens rows m w is = (and_parts w.open (has_attributes (shown (row_by rows w.due)) m) is).0
+
+shared_announced : (rows : List (Option Row)) (m : List Attribute) (w : Wait) → shares rows m w ≡ true → is_announced w ≡ true
+shared_announced rows m w is = go w.open w.due is
+  where
+    go : (b : Bool) (d : Due) → (b && has_attributes (shown (row_by rows d)) m) ≡ true → (b && not (is_withdrawal d)) ≡ true
+    go false d h = absurd (let f : false ≡ true = h in cc)
+    go true due.Withdrawn h = absurd (let f : false ≡ true = h in cc)
+    go true (due.Announced number hash) h = refl
+
+waits_shares : (rows : List (Option Row)) (m : List Attribute) (w : Wait) → WaitsFor rows m w → shares rows m w ≡ true
+waits_shares rows m w is = (λ i. is.opened i && has_attributes (value (row_by rows w.due) is.said i) m) ∙ (attributes_decides m m).1 refl
+  where
+    value : (o : Option Row) → option_map (λ (r : Row). arc_value r.attrs) o ≡ Some m → shown o ≡ Some m
+    value None h = absurd (let f : ◌≡◌ {A = Option (List Attribute)} None (Some m) = h in cc)
+    value (Some r) h = h
+
+pub any_passes : (test : Wait → Bool) (ws xs : List Wait) (n : ℕ) → ws ≡ xs → IsLeast test xs (Some n) → AnyPasses test ws
+any_passes test ws xs n e is = (n, is.0, ap (λ vs. slice_get vs n) e ∙ is.1, is.2)
+
+pub none_withdrawn : (ws : List Wait) → IsLeast is_withdrawn ws None → NoneWithdrawn ws
+none_withdrawn ws none k d low high = none k (get_or ws k d) (slice_get_read ws (length ws) k (get_or ws k d) refl high (get_or_default ws k d (get_or ws k d) high))
+
+module _ (ws : List Wait) (apart : AreApart ws) (room : ℕ) (front : List Prefix) where
+  -- a withdrawal begins with the least prefix that is to be withdrawn
+  pub withdrawn_first : front ≡ take room (passing is_withdrawn (rising ws)) → IsFirst None ws front
+  withdrawn_first all p head m z at is =
+      head_least room (passing is_withdrawn (rising ws)) p z.prefix (passing_up is_withdrawn (rising ws) (rising_up ws)) (ap (λ ps. slice_get ps 0) (sym all) ∙ head) (in_order_in is_withdrawn withdrawn_opens ws apart m z at is)
+
+  pub some_withdrawn : 0 < room → AnyPasses is_withdrawn ws → front ≡ take room (passing is_withdrawn (rising ws)) → 0 < length front
+  some_withdrawn more any all = subst (λ ps. 0 < length ps) (sym all) (some_taken room (passing is_withdrawn (rising ws)) any.1.prefix more (in_order_in is_withdrawn withdrawn_opens ws apart any.0 any.1 any.2 any.3))
+
+  module _ (rows : List (Option Row)) (m : List Attribute) (least : IsLeastOf (WaitsFor rows m) is_announced ws) (all : front ≡ take room (passing (shares rows m) (rising ws))) where
+    least_in : is_in least.1.prefix (passing (shares rows m) (rising ws)) ≡ true
+    least_in = in_order_in (shares rows m) (shared_opens rows m) ws apart least.0 least.1 least.2 (waits_shares rows m least.1 least.3)
+
+    pub some_announced : 0 < room → 0 < length front
+    some_announced more = subst (λ ps. 0 < length ps) (sym all) (some_taken room (passing (shares rows m) (rising ws)) least.1.prefix more least_in)
+
+    -- an announcement begins with the least prefix that is to be announced
+    pub announced_first : IsFirst (Some m) ws front
+    announced_first p head = subst (NoneBefore is_announced ws) is least.5
+      where
+        taken : slice_get (take room (passing (shares rows m) (rising ws))) 0 ≡ Some p
+        taken = ap (λ ps. slice_get ps 0) (sym all) ∙ head
+
+        not_before_it : prefix_order least.1.prefix p ≢ Less
+        not_before_it = head_least room (passing (shares rows m) (rising ws)) p least.1.prefix (passing_up (shares rows m) (rising ws) (rising_up ws)) taken least_in
+
+        it_not_before : prefix_order p least.1.prefix ≢ Less
+        it_not_before less =
+            let z = in_order_from (shares rows m) (shared_opens rows m) ws apart p (head_in (passing (shares rows m) (rising ws)) p (head_take room (passing (shares rows m) (rising ws)) p taken)) in
+            least.5 z.0 z.1 z.2 (shared_announced rows m z.1 z.3) (ap (λ q. prefix_order q least.1.prefix) z.4 ∙ less)
+
+        is : least.1.prefix ≡ p
+        is = neither_less least.1.prefix p not_before_it it_not_before
+
+-- ---- as callers see it
 
 seen_so : (q : Prefix) (ws : List Wait) (o : Option Wait) (b : Bool) → open_at q ws ≡ o → option_map (λ w. is_withdrawal w.due) o ≡ Some b → (w : Wait) × (open_at q ws ≡ Some w) × (is_withdrawal w.due ≡ b)
 seen_so q ws None b at h = absurd (cc)
@@ -157,9 +145,9 @@ kind_of None w opened is = (λ i. opened i && is i)
 kind_of (Some m) w opened is = (λ i. opened i && not (is i))
 
 -- no prefix that waits for the like comes before the first of the message
-pub least_chosen : (rows : List (Option Row)) (ws : List Wait) (said : Option (List Attribute)) (k : ℕ) (ns : List ℕ) (ps : List Prefix) → IsStrictlySortedBy prefix_order (prefixes_at ws) → IsFirst said ws ns → AreChosen rows ws said (take k ns) (take k ps)
+pub least_chosen : (ws : List Wait) (said : Option (List Attribute)) (k : ℕ) (ps : List Prefix) → IsFirst said ws ps
     → (p q : Prefix) → slice_get (take k ps) 0 ≡ Some p → option_map (λ (w : Wait). is_withdrawal w.due) (open_at q ws) ≡ Some (is_none said) → prefix_order q p ≢ Less
-least_chosen rows ws said k ns ps up first are p q head waits =
-    let n = head_chosen rows ws said (take k ns) (take k ps) p are head in
+least_chosen ws said k ps first p q head waits less =
     let w = seen_so q ws (open_at q ws) (is_none said) refl waits in
-    least_open (is_said said) ws n.0 p up n.2 (first n.0 (head_take k ns n.0 n.1)) q w.0 w.1 (kind_of said w.0 (open_itself q w.0 ws w.1) w.2)
+    let there = stands_somewhere q ws w.0 w.1 in
+    first p (head_take k ps p head) there.0 w.0 there.1 (kind_of said w.0 there.2 w.2) (ap (λ r. prefix_order r p) there.3 ∙ less)

@@ -1,8 +1,8 @@
 -- Chains of slots: how they come of slots that are in order, and what leaves them as they are.
-use Rattle.std.proofs.Common.{◌≡◌, ◌≢◌, ◌<◌, ◌≤◌, ℕ, zero, suc, Bool, true, false, ◌&&◌, not, cond, Option, None, Some, List, [], ◌∷◌, ◌++◌, length, slice_set, refl, sym, ap, ◌∙◌, subst, arith, inl, inr}
+use Rattle.std.proofs.Common.{◌≡◌, ◌≢◌, ◌<◌, ◌≤◌, ℕ, zero, suc, Bool, true, false, ◌&&◌, not, cond, Option, None, Some, List, [], ◌∷◌, ◌++◌, length, slice_set, take, refl, sym, ap, ◌∙◌, subst, arith, inl, inr}
 use Rattle.std.specs.Prelude.{◌⊎◌, option_map, slice_get}
 use Rattle.std.specs.Arc.{arc_value}
-use Rattle.std.specs.List.{Contains}
+use Rattle.std.specs.List.{AllWithin, Contains}
 use Rattle.std.specs.List.Sorted.{IsPermutation}
 use Rattle.std.specs.Ordering.{is_eq}
 use Rattle.std.specs.declared.cmp.Ordering.TheVariants.{Less, Equal}
@@ -10,7 +10,7 @@ use Rattle.std.proofs.lemmas.Bool.{cases_eq, cases_lt}
 use Rattle.std.proofs.lemmas.Cmp.{tied_itself}
 use Rattle.std.proofs.lemmas.Option.{get_or_from_slice_get, slice_get_read, slice_get_within, same_Some}
 use Rattle.std.proofs.lemmas.List.Sorted.{Contains-permutation, IsPermutation-sym}
-use Rattle.std.proofs.lemmas.List.Elements.{Contains-append_left, Contains-append_right, Contains-append_cases}
+use Rattle.std.proofs.lemmas.List.Elements.{AllWithin-set, Contains-append_left, Contains-append_right, Contains-append_cases}
 use Rattle.rs_octets.specs.Prefixes.{Prefix}
 use Rattle.rs_attrs.specs.Meaning.{Attribute}
 use Rattle.rs_attrs.specs.Comparing.{attributes_cmp, attributes_hash, same_attributes}
@@ -38,6 +38,9 @@ none_chained rows ws chains none n m chain hash w z a at from to later below ope
 
 pub none_by_hash : (ws : List Wait) (chains : List ℕ) → chains ≡ [] → AreByHash ws chains
 none_by_hash ws chains none n m chain hash w z at from to later below opened here there = past chain n (sym (ap (λ ls. slice_get ls n) none) ∙ at)
+
+pub by_hash_chained : (rows : List (Option Row)) (ws : List Wait) (chains : List ℕ) → AreByHash ws chains → AreChained rows ws chains
+by_hash_chained rows ws chains are n m chain hash w z a at from to later below opened here there is = absurd (are n m chain hash w z at from to later below opened here there)
 
 pub same_by_hash : (ws ws' : List Wait) (chains chains' : List ℕ) → ws' ≡ ws → chains' ≡ chains → AreByHash ws chains → AreByHash ws' chains'
 same_by_hash ws ws' chains chains' slots same are = subst (AreByHash ws') (sym same) (subst (λ vs. AreByHash vs chains) (sym slots) are)
@@ -82,6 +85,56 @@ shut_by_hash ws n x y chains here due shut are k m chain hash w z at from to lat
             are k m chain hash x z at (ap (slice_get ws) e ∙ here) there later below opened (ap hash_of (sym due ∙ ap (λ (v : Wait). v.due) same) ∙ w_hash) z_hash
         | inr apart ↦ are k m chain hash w z at (sym (set_apart ws n y k apart) ∙ from) there later below opened w_hash z_hash
       ]
+]
+
+-- ---- a slot of the first part, or one behind it, waits no more
+
+take_write : (k n : ℕ) (ws : List Wait) (y : Wait) → take k (slice_set ws n y) ≡ slice_set (take k ws) n y
+take_write zero zero [] y = refl
+take_write zero zero (w ∷ ws) y = refl
+take_write zero (suc n) [] y = refl
+take_write zero (suc n) (w ∷ ws) y = refl
+take_write (suc k) zero [] y = refl
+take_write (suc k) zero (w ∷ ws) y = refl
+take_write (suc k) (suc n) [] y = refl
+take_write (suc k) (suc n) (w ∷ ws) y = ap (λ vs. w ∷ vs) (take_write k n ws y)
+
+take_beyond : (k n : ℕ) (ws : List Wait) (y : Wait) → k ≤ n → take k (slice_set ws n y) ≡ take k ws
+take_beyond zero n ws y h = refl
+take_beyond (suc k) zero ws y h = absurd (omega (arith, h))
+take_beyond (suc k) (suc n) [] y h = refl
+take_beyond (suc k) (suc n) (w ∷ ws) y h = ap (λ vs. w ∷ vs) (take_beyond k n ws y (omega (arith, h)))
+
+pub first_get : (k n : ℕ) (ws : List Wait) (x : Wait) → n < k → slice_get ws n ≡ Some x → slice_get (take k ws) n ≡ Some x
+first_get zero n ws x h at = absurd (omega (arith, h))
+first_get (suc k) zero [] x h at = at
+first_get (suc k) (suc n) [] x h at = at
+first_get (suc k) zero (w ∷ ws) x h at = at
+first_get (suc k) (suc n) (w ∷ ws) x h at = first_get k n ws x (omega (arith, h)) at
+
+pub within_take : (k n : ℕ) (ws : List Wait) → n < k → n < length ws → n < length (take k ws)
+within_take zero n ws a b = absurd (omega (arith, a))
+within_take (suc k) n [] a b = absurd (omega (arith, b))
+within_take (suc k) zero (w ∷ ws) a b = omega arith
+within_take (suc k) (suc n) (w ∷ ws) a b = let rest = within_take k n ws (omega (arith, a)) (omega (arith, b)) in omega (arith, rest)
+
+pub first_shut_by_hash : (k : ℕ) (ws : List Wait) (n : ℕ) (x y : Wait) (chains : List ℕ) → slice_get ws n ≡ Some x → y.due ≡ x.due → y.open ≡ false → AreByHash (take k ws) chains → AreByHash (take k (slice_set ws n y)) chains
+first_shut_by_hash k ws n x y chains here due shut are = elim (cases_lt n k) [
+  | inl within ↦ subst (λ vs. AreByHash vs chains) (sym (take_write k n ws y)) (shut_by_hash (take k ws) n x y chains (first_get k n ws x within here) due shut are)
+  | inr beyond ↦ subst (λ vs. AreByHash vs chains) (sym (take_beyond k n ws y beyond)) are
+]
+
+pub first_shut_chained : (rows : List (Option Row)) (k : ℕ) (ws : List Wait) (n : ℕ) (x y : Wait) (chains : List ℕ) → slice_get ws n ≡ Some x → y.due ≡ x.due → y.open ≡ false → AreChained rows (take k ws) chains → AreChained rows (take k (slice_set ws n y)) chains
+first_shut_chained rows k ws n x y chains here due shut are = elim (cases_lt n k) [
+  | inl within ↦ subst (λ vs. AreChained rows vs chains) (sym (take_write k n ws y)) (shut_chained rows (take k ws) n x y chains (first_get k n ws x within here) due shut are)
+  | inr beyond ↦ subst (λ vs. AreChained rows vs chains) (sym (take_beyond k n ws y beyond)) are
+]
+
+-- none of the first ones passes a test that it doesn't pass
+pub none_set : (test : Wait → Bool) (k to : ℕ) (ws : List Wait) (n : ℕ) (y : Wait) → n < length ws → test y ≡ false → AllWithin (λ w. test w ≡ false) (take k ws) 0 to → AllWithin (λ w. test w ≡ false) (take k (slice_set ws n y)) 0 to
+none_set test k to ws n y below not none = elim (cases_lt n k) [
+  | inl within ↦ subst (λ vs. AllWithin (λ w. test w ≡ false) vs 0 to) (sym (take_write k n ws y)) (AllWithin-set (λ w. test w ≡ false) (take k ws) 0 to n y (within_take k n ws within below) not none)
+  | inr beyond ↦ subst (λ vs. AllWithin (λ w. test w ≡ false) vs 0 to) (sym (take_beyond k n ws y beyond)) none
 ]
 
 -- ---- what a chain passes over

@@ -127,7 +127,7 @@ first_shut q x ws true is none = none refl
 first_shut q x ws false is none = sym (ap (λ b. cond b (Some x) (open_at q ws)) (and-false x.open))
 
 -- another slot written
-later_set : {A : Type 0} (a b : Bool) (x r o : Option A) → (b ≡ true → a ≡ false) → cond a x (cond b r o) ≡ cond b r (cond a x o)
+pub later_set : {A : Type 0} (a b : Bool) (x r o : Option A) → (b ≡ true → a ≡ false) → cond a x (cond b r o) ≡ cond b r (cond a x o)
 later_set true true x r o apart = absurd (true≢false (apart refl))
 later_set false true x r o apart = refl
 later_set a false x r o apart = refl

@@ -1,10 +1,11 @@
 -- The slots that the next UPDATE is about.
-use Rattle.std.specs.Prelude.{◌≡◌, ◌⊎◌, ℕ, ◌≤◌, ◌<◌, Bool, ◌&&◌, true, false, Option, None, Some, List, [], ◌∷◌, ◌++◌, length, option_map, take, slice_get, vec_len, Vec}
-use Rattle.std.specs.List.{AllByRecursion, AllWithin, HoldsAt, filter}
+use Rattle.std.specs.Prelude.{◌≡◌, ◌≢◌, ◌⊎◌, ℕ, ◌≤◌, ◌<◌, Bool, ◌&&◌, true, false, Option, None, Some, List, [], ◌∷◌, ◌++◌, length, option_map, take, slice_get, vec_len, Vec}
+use Rattle.std.specs.List.{AllByRecursion, AllWithin, filter}
 use Rattle.std.specs.Global.{Global}
 use Rattle.std.specs.Vec.{vec_capacity}
 use Rattle.std.specs.Arc.{arc_value}
-use Rattle.rs_octets.specs.Prefixes.{Prefix, IsIpv4Prefix}
+use Rattle.std.specs.declared.cmp.Ordering.TheVariants.{Less}
+use Rattle.rs_octets.specs.Prefixes.{Prefix, IsIpv4Prefix, prefix_order}
 use Rattle.rs_attrs.specs.Meaning.{Attribute}
 use Rattle.rs_attrs.specs.Writing.{IsLegal}
 use Rattle.rs_open.specs.Notes.{limit_octets}
@@ -13,23 +14,31 @@ use Rattle.rs_packer.specs.declared.packed.Packed.{Packed}
 use Rattle.rs_outlet.specs.declared.answers.Speech.{Speech}
 use Rattle.rs_outlet.specs.declared.rows.Row.{Row}
 use Rattle.rs_outlet.specs.declared.waiting.Wait.{Wait}
-use Rattle.rs_outlet.specs.Pending.Slots.{prefixes_at, open_at, is_announced, is_withdrawal, is_withdrawn}
+use Rattle.rs_outlet.specs.Pending.Slots.{prefixes_at, open_at, is_announced, is_withdrawal, is_withdrawn, rising}
 use Rattle.rs_outlet.specs.Inside.{IsBacked, row_at, row_by, shown}
 use Rattle.rs_outlet.specs.Message.Next.{AreAsManyAsFit, has_attributes}
 
--- the first slot that passes the test; none where there is none
-abbrev pub IsFound : (Wait → Bool) → List Wait → Option ℕ → Type 0
-IsFound test ws None = AllWithin (λ w. test w ≡ false) ws 0 (length ws)
-IsFound test ws (Some n) = (n < length ws) × HoldsAt (λ w. test w ≡ true) ws n × AllWithin (λ w. test w ≡ false) ws 0 n
+-- no prefix that passes the test comes before this one
+abbrev pub NoneBefore : (Wait → Bool) → List Wait → Prefix → Type 0
+NoneBefore test ws p = (m : ℕ) (z : Wait) → slice_get ws m ≡ Some z → test z ≡ true → prefix_order z.prefix p ≢ Less
 
--- a slot is added at the end of those listed, or not
-abbrev pub MayList : ℕ → List ℕ → List ℕ → Type 0
-MayList n old new = (new ≡ old) ⊎ (new ≡ old ++ n ∷ [])
+-- the slot of the least prefix that passes the test; none where there is none
+abbrev pub IsLeast : (Wait → Bool) → List Wait → Option ℕ → Type 0
+IsLeast test ws None = (m : ℕ) (z : Wait) → slice_get ws m ≡ Some z → test z ≡ false
+IsLeast test ws (Some n) = (w : Wait) × (slice_get ws n ≡ Some w) × (test w ≡ true) × NoneBefore test ws w.prefix
 
--- the slots listed rise
-abbrev pub Rise : List ℕ → Type 0
-Rise [] = Unit {0}
-Rise (n ∷ ns) = AllByRecursion (λ m. n < m) ns × Rise ns
+-- a slot passes the test
+abbrev pub AnyPasses : (Wait → Bool) → List Wait → Type 0
+AnyPasses test ws = (n : ℕ) × (w : Wait) × (slice_get ws n ≡ Some w) × (test w ≡ true)
+
+-- the slot of the least prefix that passes the test is such a one
+abbrev pub IsLeastOf : (Wait → Type 0) → (Wait → Bool) → List Wait → Type 0
+IsLeastOf is test ws = (n : ℕ) × (w : Wait) × (slice_get ws n ≡ Some w) × is w × (test w ≡ true) × NoneBefore test ws w.prefix
+
+-- of a slot in the first part and one in the late part, none has a lesser prefix than this one
+abbrev pub IsLesser : ℕ → ℕ → ℕ → List Wait → ℕ → Type 0
+IsLesser sorted first late ws n =
+    (w z : Wait) (m : ℕ) → slice_get ws n ≡ Some w → slice_get ws m ≡ Some z → (((m ≡ first) × (m < sorted)) ⊎ (m ≡ late)) → prefix_order z.prefix w.prefix ≢ Less
 
 -- there is room for a slot and for its prefix
 abbrev pub HaveRoom : Vec ℕ Global → Vec Prefix Global → Type 0
@@ -55,7 +64,9 @@ IsSaid rows p w (Some m) = (is_withdrawal w.due ≡ false) × HasRow rows p m
 -- the prefix waits at this slot, and this is to be said of it
 pub record IsChosen (rows : List (Option Row)) (ws : List Wait) (said : Option (List Attribute)) (n : ℕ) (p : Prefix) : Type 0 where
   pub wait : Wait
-  pub at : slice_get (prefixes_at ws) n ≡ Some p
+  pub at : slice_get ws n ≡ Some wait
+  pub prefix : wait.prefix ≡ p
+  pub opened : wait.open ≡ true
   pub waits : open_at p ws ≡ Some wait
   pub legal : IsIpv4Prefix p
   pub is : IsSaid rows p wait said
@@ -93,9 +104,9 @@ abbrev pub is_said : Option (List Attribute) → Wait → Bool
 is_said None w = is_withdrawn w
 is_said (Some m) w = is_announced w
 
--- the first of the slots is the first at which the like is to be said
-abbrev pub IsFirst : Option (List Attribute) → List Wait → List ℕ → Type 0
-IsFirst said ws ns = (n : ℕ) → slice_get ns 0 ≡ Some n → AllWithin (λ w. is_said said w ≡ false) ws 0 n
+-- no prefix at which the like is to be said comes before the first of these
+abbrev pub IsFirst : Option (List Attribute) → List Wait → List Prefix → Type 0
+IsFirst said ws ps = (p : Prefix) → slice_get ps 0 ≡ Some p → NoneBefore (is_said said) ws p
 
 -- whether a slot waits to be announced, with these attributes
 abbrev pub shares : List (Option Row) → List Attribute → Wait → Bool
@@ -116,10 +127,9 @@ pub record IsUpdate (speech : Speech) (rows : List (Option Row)) (ws : List Wait
   pub legal : IsLegalSaid said
   pub in_turn : IsInTurn said ws
   pub chosen : AreChosen rows ws said ns ps
-  pub rise : Rise ns
-  pub first : IsFirst said ws ns
+  pub first : IsFirst said ws ps
   pub written : IsWritten (message_of speech said) ps octets packed
-  pub all : AreAsManyAsFit (message_of speech said) (limit_octets speech.limit) (passing (is_said_there rows said) ws) (take packed.prefixes ps)
+  pub all : AreAsManyAsFit (message_of speech said) (limit_octets speech.limit) (passing (is_said_there rows said) (rising ws)) (take packed.prefixes ps)
 
 -- none of the slots waits
 abbrev pub NoneOpen : List Wait → Type 0

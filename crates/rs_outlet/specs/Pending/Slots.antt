@@ -1,8 +1,10 @@
 -- The slots of what waits: a list of them, and what stands there of a prefix.
-use Rattle.std.specs.Prelude.{◌≡◌, ◌≢◌, ◌<◌, length, slice_get, is_some, ℕ, Bool, ◌&&◌, not, true, false, map, Option, None, Some, List, [], ◌∷◌, count_by, if◌then◌else◌}
+use Rattle.std.specs.Prelude.{◌≡◌, ◌≢◌, ◌⊎◌, ◌<◌, ◌≤◌, length, slice_get, slice_set, is_some, ℕ, Bool, ◌&&◌, not, true, false, map, Option, None, Some, List, [], ◌∷◌, count_by, if◌then◌else◌}
 use Rattle.std.specs.List.{AllByRecursion, IsDistinct, filter, list_any}
 use Rattle.std.specs.Arc.{arc_value}
 use Rattle.std.specs.Ordering.{eq_by_cmp}
+use Rattle.std.specs.declared.cmp.Ordering.{Ordering}
+use Rattle.std.specs.declared.cmp.Ordering.TheVariants.{Less, Equal, Greater}
 use Rattle.rs_octets.specs.Prefixes.{Prefix, prefix_order}
 use Rattle.rs_attrs.specs.Meaning.{Attribute}
 use Rattle.rs_outlet.specs.declared.waiting.Told.{Told}
@@ -43,11 +45,40 @@ open_count ws = count_by (λ w. w.open) ws
 abbrev pub withdrawn_count : List Wait → ℕ
 withdrawn_count ws = count_by is_withdrawn ws
 
+-- a slot put among others that rise by prefix, in place of the one of its prefix
+abbrev pub put_by : Ordering → Wait → Wait → List Wait → List Wait → List Wait
+put_by Less w x xs rest = w ∷ x ∷ xs
+put_by Equal w x xs rest = w ∷ xs
+put_by Greater w x xs rest = x ∷ rest
+
+abbrev pub put_rising : Wait → List Wait → List Wait
+put_rising w [] = w ∷ []
+put_rising w (x ∷ xs) = put_by (prefix_order w.prefix x.prefix) w x xs (put_rising w xs)
+
+-- those that wait still, by rising prefix
+abbrev pub rising : List Wait → List Wait
+rising [] = []
+rising (w ∷ ws) = if w.open then put_rising w (rising ws) else rising ws
+
+-- a slot waits no more, where it is one
+abbrev pub IsShut : ℕ → List Wait → List Wait → Type 0
+IsShut n old new =
+    ((length old ≤ n) × (new ≡ old))
+    ⊎ ((w y : Wait) × (slice_get old n ≡ Some w) × (y.open ≡ false) × (new ≡ slice_set old n y))
+
 -- between a slot and the one that it leads to, none that waits has its hash
 abbrev pub AreByHash : List Wait → List ℕ → Type 0
 AreByHash ws chains =
     (n m chain hash : ℕ) (w z : Wait) → slice_get chains n ≡ Some chain → slice_get ws n ≡ Some w → slice_get ws m ≡ Some z
     → n < m → m < chain → z.open ≡ true → hash_of w.due ≡ Some hash → hash_of z.due ≢ Some hash
+
+-- whether a slot waits, of this prefix
+abbrev pub waits_there : Prefix → Wait → Bool
+waits_there p w = w.open && eq_by_cmp prefix_order p w.prefix
+
+-- no prefix waits at two slots
+abbrev pub AreApart : List Wait → Type 0
+AreApart ws = (p : Prefix) → count_by (waits_there p) ws ≤ 1
 
 -- the open slot of a prefix
 abbrev pub open_at : Prefix → List Wait → Option Wait

@@ -6,7 +6,7 @@
 //! over many slots of its hash, the slots are put in order by their attributes too from then on, and those
 //! with the same attributes lie side by side.
 
-ghost use Rattle.std.specs.Prelude.{◌≡◌, ◌<◌, ◌≤◌, ◌++◌, ◌∷◌, [], ℕ, suc, List, Option, Some, IfSome, IsSome, IsTrue, false, true, nat_lt, slice_get, length, vec_len, if◌then◌else◌};
+ghost use Rattle.std.specs.Prelude.{◌≡◌, ◌<◌, ◌≤◌, ◌++◌, ◌∷◌, [], ℕ, suc, List, Option, Some, IfSome, IsSome, IsTrue, false, true, nat_lt, slice_get, length, take, vec_len, if◌then◌else◌};
 ghost use Rattle.std.specs.Arc.{arc_value};
 ghost use Rattle.std.specs.List.{HoldsAt};
 ghost use Rattle.std.specs.List.Sorted.{IsPermutation};
@@ -249,17 +249,17 @@ fn chain_in_order(
 const MANY_OF_ONE_HASH: usize = 64;
 
 impl Waits {
-    /// Chains the slots that are to be announced. It takes no memory.
+    /// Chains the slots of the first part that are to be announced. It takes no memory.
     pub(crate) fn chain(&mut self, rows: &Rows)
         ensures items { self.new.slots.items ≡ self.old.slots.items }
         ensures sorted { self.new.sorted ≡ self.old.sorted }
         ensures capacity { vec_capacity self.new.slots ≡ vec_capacity self.old.slots }
-        ensures chained { AreChained rows.now.rows.items self.new.slots.items self.new.chains.items }
+        ensures chained { AreChained rows.now.rows.items (take self.new.sorted self.new.slots.items) self.new.chains.items }
     {
         chain_in_order(
             self.exact,
             rows,
-            &self.slots,
+            &self.slots[..self.sorted],
             &mut self.order,
             &mut self.chains,
         );
@@ -269,8 +269,9 @@ impl Waits {
     /// chains are dropped, and slots are chained by their attributes too from now on, until none waits.
     pub(crate) fn note_passed(&mut self, passed: usize)
         ensures slots { self.new.slots.items ≡ self.old.slots.items }
+        ensures sorted { self.new.sorted ≡ self.old.sorted }
         ensures capacity { vec_capacity self.new.slots ≡ vec_capacity self.old.slots }
-        ensures chained { (rows : List (Option Row)) → AreChained rows self.old.slots.items self.old.chains.items → AreChained rows self.new.slots.items self.new.chains.items }
+        ensures chained { (rows : List (Option Row)) → AreChained rows (take self.old.sorted self.old.slots.items) self.old.chains.items → AreChained rows (take self.new.sorted self.new.slots.items) self.new.chains.items }
     {
         if self.exact || passed <= MANY_OF_ONE_HASH {
             return;
@@ -279,12 +280,13 @@ impl Waits {
         self.chains.clear();
     }
 
-    /// The next slot that may have the attributes of a message, of which this is the hash, where this one
-    /// has them or not.
+    /// The next slot of the first part that may have the attributes of a message, of which this is the hash,
+    /// where this one has them or not.
     pub(crate) fn next_slot(&self, slot: usize, hash: u32, has: bool) -> usize
-        requires { slot < vec_len self.now.slots }
+        requires { slot < self.now.sorted }
         ensures later { slot < result }
-        ensures between { (rows : List (Option Row)) (m : List Attribute) → AreChained rows self.now.slots.items self.now.chains.items → AreBacked rows self.now.slots.items → attributes_hash m ≡ hash → (IsTrue has → HoldsAt (λ w. shown (row_by rows w.due) ≡ Some m) self.now.slots.items slot) → (n : ℕ) (z : Wait) → slice_get self.now.slots.items n ≡ Some z → slot < n → n < result → shares rows m z ≡ false }
+        ensures within { result ≤ self.now.sorted }
+        ensures between { (rows : List (Option Row)) (m : List Attribute) → AreChained rows (take self.now.sorted self.now.slots.items) self.now.chains.items → AreBacked rows self.now.slots.items → attributes_hash m ≡ hash → (IsTrue has → HoldsAt (λ w. shown (row_by rows w.due) ≡ Some m) self.now.slots.items slot) → (n : ℕ) (z : Wait) → slice_get self.now.slots.items n ≡ Some z → slot < n → n < result → shares rows m z ≡ false }
     {
         if self.exact && !has {
             return slot + 1;
@@ -294,7 +296,7 @@ impl Waits {
         }
         match self.chains.get(slot) {
             None => slot + 1,
-            Some(chain) => (slot + 1).max(*chain as usize),
+            Some(chain) => (slot + 1).max(*chain as usize).min(self.sorted),
         }
     }
 

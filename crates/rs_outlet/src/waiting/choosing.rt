@@ -1,6 +1,6 @@
 //! Which slots the next UPDATE is about, and that they wait no more once it is begun.
 
-ghost use Rattle.std.specs.Prelude.{◌≡◌, ◌≤◌, ◌<◌, ◌++◌, ◌∷◌, [], ℕ, length, drop, take, true, List, Option, None, Some, false, IsTrue, vec_len, option_copied, slice_get, if◌then◌else◌};
+ghost use Rattle.std.specs.Prelude.{◌≡◌, ◌≤◌, ◌<◌, ◌++◌, ◌∷◌, ◌⊎◌, [], IfSome, ℕ, length, take, true, List, Option, None, Some, false, IsTrue, vec_len, option_copied, slice_get, if◌then◌else◌};
 ghost use Rattle.std.specs.List.{AllWithin, HoldsAt, list_any};
 ghost use Rattle.std.specs.Ordering.{eq_by_cmp};
 ghost use Rattle.std.specs.Vec.{vec_capacity};
@@ -8,8 +8,8 @@ ghost use Rattle.rs_octets.specs.Prefixes.{Prefix, prefix_order};
 ghost use Rattle.rs_attrs.specs.Meaning.{Attribute};
 ghost use Rattle.rs_outlet.specs.declared.rows.Row.{Row};
 ghost use Rattle.rs_outlet.specs.declared.waiting.Wait.{Wait};
-ghost use Rattle.rs_outlet.specs.Pending.Slots.{prefixes_at, open_at, is_withdrawal, is_withdrawn, is_announced, withdrawn_count};
-ghost use Rattle.rs_outlet.specs.Pending.Choosing.{HasRow, HaveRoom, IsFound, IsChosen, AreChosen, MayList, Rise, WaitsFor, passing, shares};
+ghost use Rattle.rs_outlet.specs.Pending.Slots.{IsShut, open_at, is_withdrawal, is_withdrawn, is_announced, rising, withdrawn_count};
+ghost use Rattle.rs_outlet.specs.Pending.Choosing.{HasRow, HaveRoom, IsChosen, IsLeast, IsLesser, AreChosen, WaitsFor, passing, shares};
 ghost use Rattle.rs_outlet.specs.Inside.{AreBacked, AreChained, IsBacked, row_by, shown};
 ghost use Rattle.rs_outlet.specs.Message.Next.{has_attributes};
 
@@ -18,59 +18,87 @@ use crate::table::Rows;
 use crate::waiting::{Due, Wait, Waits};
 use rs_attrs::Attrs;
 use rs_octets::Prefix;
+use std::cmp::Ordering;
 
 impl Waits {
-    /// The first slot that is to be withdrawn.
+    /// The slot of the least prefix that is to be withdrawn.
     pub(crate) fn first_withdrawn(&mut self) -> Option<usize>
         ensures slots { self.new.slots.items ≡ self.old.slots.items }
+        ensures sorted { self.new.sorted ≡ self.old.sorted }
         ensures chains { self.new.chains.items ≡ self.old.chains.items }
         ensures capacity { vec_capacity self.new.slots ≡ vec_capacity self.old.slots }
-        ensures first { IsFound is_withdrawn self.old.slots.items result }
+        ensures first { IsLeast is_withdrawn self.old.slots.items result }
     {
-        self.gone = next_withdrawn(&self.slots, self.gone);
-        if self.gone < self.slots.len() {
-            Some(self.gone)
-        } else {
-            None
-        }
+        self.gone = next_withdrawn(&self.slots[..self.sorted], self.gone);
+        let late = next_withdrawn(&self.slots, self.sorted);
+        self.lesser(self.gone, late)
     }
 
-    /// The first slot that is to be announced.
+    /// The slot of the least prefix that is to be announced.
     pub(crate) fn first_announced(&mut self) -> Option<usize>
         ensures slots { self.new.slots.items ≡ self.old.slots.items }
+        ensures sorted { self.new.sorted ≡ self.old.sorted }
         ensures chains { self.new.chains.items ≡ self.old.chains.items }
         ensures capacity { vec_capacity self.new.slots ≡ vec_capacity self.old.slots }
-        ensures first { IsFound is_announced self.old.slots.items result }
+        ensures first { IsLeast is_announced self.old.slots.items result }
     {
-        self.news = next_announced(&self.slots, self.news);
-        if self.news < self.slots.len() {
-            Some(self.news)
-        } else {
-            None
+        self.news = next_announced(&self.slots[..self.sorted], self.news);
+        let late = next_announced(&self.slots, self.sorted);
+        self.lesser(self.news, late)
+    }
+
+    /// Of a slot of the first part and one of the late part the one with the lesser prefix; none where both
+    /// parts end there.
+    fn lesser(&self, first: usize, late: usize) -> Option<usize>
+        ensures within { IfSome result (λ n. n < vec_len self.now.slots) }
+        ensures either { IfSome result (λ n. ((n ≡ first) × (n < self.now.sorted)) ⊎ (n ≡ late)) }
+        ensures least { IfSome result (λ n. IsLesser self.now.sorted first late self.now.slots.items n) }
+        ensures none { result ≡ None → (self.now.sorted ≤ first) × (vec_len self.now.slots ≤ late) }
+    {
+        if self.sorted <= first {
+            return if late < self.slots.len() {
+                Some(late)
+            } else {
+                None
+            };
+        }
+        if self.slots.len() <= late {
+            return Some(first);
+        }
+        match self.slots[late].prefix.cmp(&self.slots[first].prefix) {
+            Ordering::Less => Some(late),
+            Ordering::Equal => Some(first),
+            Ordering::Greater => Some(first),
         }
     }
 
-    /// Lists what is to be withdrawn, from this slot on, as much as there is room for.
+    /// Lists what is to be withdrawn, from the least prefix on, as much as there is room for.
     pub(crate) fn collect_withdrawn(
         &self,
-        first: usize,
         room: usize,
         chosen: &mut Vec<usize>,
         front: &mut Vec<Prefix>,
     )
         ensures chosen { vec_capacity chosen.new ≡ vec_capacity chosen.old }
         ensures front { vec_capacity front.new ≡ vec_capacity front.old }
-        ensures some { first < vec_len self.now.slots → HoldsAt (λ w. is_withdrawn w ≡ true) self.now.slots.items first → vec_len front.old < room → HaveRoom chosen.old front.old → 0 < vec_len front.new }
-        ensures first { first < vec_len self.now.slots → HoldsAt (λ w. is_withdrawn w ≡ true) self.now.slots.items first → vec_len front.old < room → HaveRoom chosen.old front.old → chosen.old.items ≡ [] → slice_get chosen.new.items 0 ≡ Some first }
-        ensures rise { chosen.old.items ≡ [] → Rise chosen.new.items }
         ensures are { (rows : List (Option Row)) → AreChosen rows self.now.slots.items None chosen.old.items front.old.items → AreChosen rows self.now.slots.items None chosen.new.items front.new.items }
-        ensures all { room ≤ vec_capacity chosen.old → room ≤ vec_capacity front.old → chosen.old.items ≡ [] → front.old.items ≡ [] → front.new.items ≡ take room (passing is_withdrawn (drop first self.now.slots.items)) }
+        ensures all { room ≤ vec_capacity chosen.old → room ≤ vec_capacity front.old → chosen.old.items ≡ [] → front.old.items ≡ [] → front.new.items ≡ take room (passing is_withdrawn (rising self.now.slots.items)) }
     {
-        for slot in first..self.slots.len() {
+        let mut first = self.gone;
+        let mut late = self.sorted;
+        for _ in 0..self.slots.len() {
             if room <= front.len() {
                 return;
             }
+            let Some(slot) = self.lesser(first, late) else {
+                return;
+            };
             self.list_withdrawn(slot, chosen, front);
+            if slot < self.sorted {
+                first = slot + 1;
+            } else {
+                late = slot + 1;
+            }
         }
     }
 
@@ -79,10 +107,6 @@ impl Waits {
         requires { slot < vec_len self.now.slots }
         ensures chosen { vec_capacity chosen.new ≡ vec_capacity chosen.old }
         ensures front { vec_capacity front.new ≡ vec_capacity front.old }
-        ensures grows { vec_len front.old ≤ vec_len front.new }
-        ensures listed { HoldsAt (λ w. is_withdrawn w ≡ true) self.now.slots.items slot → HaveRoom chosen.old front.old → 0 < vec_len front.new }
-        ensures slots { MayList slot chosen.old.items chosen.new.items }
-        ensures there { HoldsAt (λ w. is_withdrawn w ≡ true) self.now.slots.items slot → HaveRoom chosen.old front.old → chosen.new.items ≡ chosen.old.items ++ slot ∷ [] }
         ensures are { (rows : List (Option Row)) → AreChosen rows self.now.slots.items None chosen.old.items front.old.items → AreChosen rows self.now.slots.items None chosen.new.items front.new.items }
         ensures all { HaveRoom chosen.old front.old → HoldsAt (λ w. front.new.items ≡ front.old.items ++ passing is_withdrawn (w ∷ [])) self.now.slots.items slot }
     {
@@ -105,12 +129,11 @@ impl Waits {
         }
     }
 
-    /// Lists the prefixes from this slot on that wait for these attributes, as many as there is room
-    /// for. Answers how many slots of their hash it passed over.
+    /// Lists the prefixes that wait for these attributes, from the least on, as many as there is room for.
+    /// Answers how many slots of their hash it passed over.
     pub(crate) fn collect_announced(
         &self,
         rows: &Rows,
-        first: usize,
         attrs: &Attrs,
         room: usize,
         chosen: &mut Vec<usize>,
@@ -118,25 +141,27 @@ impl Waits {
     ) -> usize
         ensures chosen { vec_capacity chosen.new ≡ vec_capacity chosen.old }
         ensures front { vec_capacity front.new ≡ vec_capacity front.old }
-        ensures some { first < vec_len self.now.slots → HoldsAt (WaitsFor rows.now.rows.items attrs.now) self.now.slots.items first → vec_len front.old < room → HaveRoom chosen.old front.old → 0 < vec_len front.new }
-        ensures first { first < vec_len self.now.slots → HoldsAt (WaitsFor rows.now.rows.items attrs.now) self.now.slots.items first → vec_len front.old < room → HaveRoom chosen.old front.old → chosen.old.items ≡ [] → slice_get chosen.new.items 0 ≡ Some first }
-        ensures rise { chosen.old.items ≡ [] → Rise chosen.new.items }
         ensures are { AreChosen rows.now.rows.items self.now.slots.items (Some attrs.now) chosen.old.items front.old.items → AreChosen rows.now.rows.items self.now.slots.items (Some attrs.now) chosen.new.items front.new.items }
-        ensures all { AreChained rows.now.rows.items self.now.slots.items self.now.chains.items → AreBacked rows.now.rows.items self.now.slots.items → room ≤ vec_capacity chosen.old → room ≤ vec_capacity front.old → chosen.old.items ≡ [] → front.old.items ≡ [] → front.new.items ≡ take room (passing (shares rows.now.rows.items attrs.now) (drop first self.now.slots.items)) }
+        ensures all { AreChained rows.now.rows.items (take self.now.sorted self.now.slots.items) self.now.chains.items → AreBacked rows.now.rows.items self.now.slots.items → room ≤ vec_capacity chosen.old → room ≤ vec_capacity front.old → chosen.old.items ≡ [] → front.old.items ≡ [] → front.new.items ≡ take room (passing (shares rows.now.rows.items attrs.now) (rising self.now.slots.items)) }
     {
         let hash = attrs.kept_hash();
-        let mut slot = first;
+        let mut first = self.news;
+        let mut late = self.sorted;
         let mut passed: usize = 0;
         for _ in 0..self.slots.len() {
             if room <= front.len() {
                 return passed;
             }
-            if self.slots.len() <= slot {
+            let Some(slot) = self.lesser(first, late) else {
                 return passed;
-            }
+            };
             let listed = self.list_announced(rows, slot, attrs, chosen, front);
-            passed = passed.saturating_add(usize::from(self.is_passed(slot, hash, listed)));
-            slot = self.next_slot(slot, hash, listed);
+            if slot < self.sorted {
+                passed = passed.saturating_add(usize::from(self.is_passed(slot, hash, listed)));
+                first = self.next_slot(slot, hash, listed);
+            } else {
+                late = slot + 1;
+            }
         }
         passed
     }
@@ -154,10 +179,6 @@ impl Waits {
         ensures waits { IsTrue result → HoldsAt (λ w. shown (row_by rows.now.rows.items w.due) ≡ Some attrs.now) self.now.slots.items slot }
         ensures chosen { vec_capacity chosen.new ≡ vec_capacity chosen.old }
         ensures front { vec_capacity front.new ≡ vec_capacity front.old }
-        ensures grows { vec_len front.old ≤ vec_len front.new }
-        ensures listed { HoldsAt (WaitsFor rows.now.rows.items attrs.now) self.now.slots.items slot → HaveRoom chosen.old front.old → 0 < vec_len front.new }
-        ensures slots { MayList slot chosen.old.items chosen.new.items }
-        ensures there { HoldsAt (WaitsFor rows.now.rows.items attrs.now) self.now.slots.items slot → HaveRoom chosen.old front.old → chosen.new.items ≡ chosen.old.items ++ slot ∷ [] }
         ensures are { AreChosen rows.now.rows.items self.now.slots.items (Some attrs.now) chosen.old.items front.old.items → AreChosen rows.now.rows.items self.now.slots.items (Some attrs.now) chosen.new.items front.new.items }
         ensures all { HaveRoom chosen.old front.old → HoldsAt (λ w. (w.open ≡ true → IsBacked rows.now.rows.items w.prefix w.due) → front.new.items ≡ front.old.items ++ passing (shares rows.now.rows.items attrs.now) (w ∷ [])) self.now.slots.items slot }
     {
@@ -176,7 +197,7 @@ impl Waits {
 
     /// These slots wait no more.
     pub(crate) fn give_up(&mut self, chosen: &[usize])
-        ensures chained { (rows : List (Option Row)) → AreChained rows self.old.slots.items self.old.chains.items → AreChained rows self.new.slots.items self.new.chains.items }
+        ensures chained { (rows : List (Option Row)) → AreChained rows (take self.old.sorted self.old.slots.items) self.old.chains.items → AreChained rows (take self.new.sorted self.new.slots.items) self.new.chains.items }
         ensures withdrawn { withdrawn_count self.new.slots.items ≤ withdrawn_count self.old.slots.items }
         ensures capacity { vec_capacity self.new.slots ≡ vec_capacity self.old.slots }
         ensures slots { (rows : List (Option Row)) (said : Option (List Attribute)) (ps : List Prefix) → AreChosen rows self.old.slots.items said chosen.now ps → (q : Prefix) → open_at q self.new.slots.items ≡ (if list_any (eq_by_cmp prefix_order q) ps then None else open_at q self.old.slots.items) }
@@ -188,11 +209,10 @@ impl Waits {
 
     /// A slot waits no more.
     fn give_up_one(&mut self, slot: usize)
-        ensures chained { (rows : List (Option Row)) → AreChained rows self.old.slots.items self.old.chains.items → AreChained rows self.new.slots.items self.new.chains.items }
-        ensures prefixes { prefixes_at self.new.slots.items ≡ prefixes_at self.old.slots.items }
+        ensures chained { (rows : List (Option Row)) → AreChained rows (take self.old.sorted self.old.slots.items) self.old.chains.items → AreChained rows (take self.new.sorted self.new.slots.items) self.new.chains.items }
         ensures withdrawn { withdrawn_count self.new.slots.items ≤ withdrawn_count self.old.slots.items }
         ensures capacity { vec_capacity self.new.slots ≡ vec_capacity self.old.slots }
-        ensures slots { (p : Prefix) → slice_get (prefixes_at self.old.slots.items) slot ≡ Some p → (q : Prefix) → open_at q self.new.slots.items ≡ (if eq_by_cmp prefix_order q p then None else open_at q self.old.slots.items) }
+        ensures slots { IsShut slot self.old.slots.items self.new.slots.items }
     {
         if slot < self.slots.len() {
             let _ = self.close(slot);
@@ -202,6 +222,7 @@ impl Waits {
 
 /// The first slot from here on that is to be withdrawn; where there is none, the end of the slots.
 fn next_withdrawn(slots: &[Wait], from: usize) -> usize
+    ensures later { from ≤ length slots.now → from ≤ result }
     ensures before { AllWithin (λ w. is_withdrawn w ≡ false) slots.now from result }
     ensures there { result < length slots.now → HoldsAt (λ w. is_withdrawn w ≡ true) slots.now result }
 {
@@ -215,6 +236,7 @@ fn next_withdrawn(slots: &[Wait], from: usize) -> usize
 
 /// The first slot from here on that is to be announced; where there is none, the end of the slots.
 fn next_announced(slots: &[Wait], from: usize) -> usize
+    ensures later { from ≤ length slots.now → from ≤ result }
     ensures before { AllWithin (λ w. is_announced w ≡ false) slots.now from result }
     ensures there { result < length slots.now → HoldsAt (λ w. is_announced w ≡ true) slots.now result }
 {
@@ -230,10 +252,6 @@ fn next_announced(slots: &[Wait], from: usize) -> usize
 fn list_slot(slot: usize, prefix: Prefix, chosen: &mut Vec<usize>, front: &mut Vec<Prefix>)
     ensures chosen { vec_capacity chosen.new ≡ vec_capacity chosen.old }
     ensures front { vec_capacity front.new ≡ vec_capacity front.old }
-    ensures grows { vec_len front.old ≤ vec_len front.new }
-    ensures listed { HaveRoom chosen.old front.old → 0 < vec_len front.new }
-    ensures slots { MayList slot chosen.old.items chosen.new.items }
-    ensures there { HaveRoom chosen.old front.old → chosen.new.items ≡ chosen.old.items ++ slot ∷ [] }
     ensures prefix { HaveRoom chosen.old front.old → front.new.items ≡ front.old.items ++ prefix ∷ [] }
     ensures are { (rows : List (Option Row)) (ws : List Wait) (said : Option (List Attribute)) → AreChosen rows ws said chosen.old.items front.old.items → IsChosen rows ws said slot prefix → AreChosen rows ws said chosen.new.items front.new.items }
 {

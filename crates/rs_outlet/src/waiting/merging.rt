@@ -1,12 +1,13 @@
-//! Slots are added to what waits, and both of its parts become one: now and then as slots are added,
-//! always where the client takes messages meanwhile, and at the latest before a message begins.
+//! Slots are added to what waits, and both of its parts become one: now and then as slots are added, and
+//! before the first message.
 
-ghost use Rattle.std.specs.Prelude.{◌≡◌, ◌≤◌, ◌+◌, ◌++◌, [], false, vec_len};
+ghost use Rattle.std.specs.Prelude.{◌≡◌, ◌≤◌, ◌+◌, ◌++◌, [], false, List, Option, take, vec_len};
 ghost use Rattle.std.specs.List.Sorted.{IsStrictlySortedBy};
 ghost use Rattle.std.specs.Vec.{vec_capacity};
 ghost use Rattle.rs_octets.specs.Prefixes.{Prefix, prefix_order};
 ghost use Rattle.rs_outlet.specs.Pending.Slots.{AreFresh, open_at, open_count, prefixes_at, withdrawn_count};
 ghost use Rattle.rs_outlet.specs.Inside.{AreBacked, AreChained};
+ghost use Rattle.rs_outlet.specs.declared.rows.Row.{Row};
 
 use crate::table::Rows;
 use crate::waiting::parts::{drop_shut, put_slots, sort_from};
@@ -33,23 +34,18 @@ fn renew<T: Drop>(alloc: Global, room: &mut Vec<T>)
 }
 
 impl Waits {
-    /// Adds slots, for which there is room once those that wait no more are dropped. Where a message
-    /// began since others were added, the next one may begin soon, and one part is made for it here:
-    /// when it begins no buffer can be asked for.
+    /// Adds slots, for which there is room once those that wait no more are dropped.
     pub(crate) fn add(&mut self, more: Vec<Wait>)
         requires room { open_count self.old.slots.items + vec_len more ≤ vec_capacity self.old.slots }
         requires fresh { AreFresh self.old.slots.items more.items }
         ensures slots { (q : Prefix) → open_at q self.new.slots.items ≡ open_at q (self.old.slots.items ++ more.items) }
         ensures withdrawn { withdrawn_count self.new.slots.items ≤ withdrawn_count self.old.slots.items + withdrawn_count more.items }
         ensures capacity { vec_capacity self.new.slots ≡ vec_capacity self.old.slots }
-        ensures chains { self.new.chains.items ≡ [] }
+        ensures chained { (rows : List (Option Row)) → AreChained rows (take self.new.sorted self.new.slots.items) self.new.chains.items }
     {
-        let has_begun = self.ready;
         self.make_room(more.len());
+        self.drop_exact_chains();
         self.add_late(more);
-        if has_begun {
-            self.make_one_part(Some(self.alloc));
-        }
     }
 
     /// Makes room for so many slots behind the others, and keeps the late part short.
@@ -95,23 +91,30 @@ impl Waits {
         self.waiting == 0 || self.sorted.saturating_mul(LATE) < late.saturating_mul(late)
     }
 
-    /// Adds slots to the late part, for which there is room.
+    /// Drops chains that were made by attributes: other rows may stand by now at slots that wait no more.
+    fn drop_exact_chains(&mut self)
+        ensures slots { self.new.slots.items ≡ self.old.slots.items }
+        ensures capacity { vec_capacity self.new.slots ≡ vec_capacity self.old.slots }
+        ensures chained { (rows : List (Option Row)) → AreChained rows (take self.new.sorted self.new.slots.items) self.new.chains.items }
+    {
+        if self.exact {
+            self.chains.clear();
+        }
+    }
+
+    /// Adds slots to the late part, for which there is room. The first part and its chains stay.
     fn add_late(&mut self, more: Vec<Wait>)
         requires room { vec_len self.old.slots + vec_len more ≤ vec_capacity self.old.slots }
         requires fresh { AreFresh self.old.slots.items more.items }
         ensures slots { (q : Prefix) → open_at q self.new.slots.items ≡ open_at q (self.old.slots.items ++ more.items) }
         ensures withdrawn { withdrawn_count self.new.slots.items ≤ withdrawn_count self.old.slots.items + withdrawn_count more.items }
         ensures capacity { vec_capacity self.new.slots ≡ vec_capacity self.old.slots }
-        ensures chains { self.new.chains.items ≡ [] }
+        ensures chained { (rows : List (Option Row)) → AreChained rows (take self.old.sorted self.old.slots.items) self.old.chains.items → AreChained rows (take self.new.sorted self.new.slots.items) self.new.chains.items }
     {
         let count = more.len();
         put_slots(&mut self.slots, self.sorted, more);
         sort_from(Some(self.alloc), &mut self.slots, self.sorted);
         self.waiting += count;
-        self.ready = false;
-        self.chains.clear();
-        self.gone = 0;
-        self.news = 0;
     }
 
     /// Makes one part of both, without the slots that wait no more. A buffer for it is asked for where
@@ -151,15 +154,13 @@ impl Waits {
         self.merge(buffers);
     }
 
-    /// Makes the slots ready for a message: they are one part, and from the second message on chained. They
-    /// stay so till others are added. So a client that takes one message between two turns has its slots
-    /// gone through once for it, and not put in order anew. It takes no memory.
+    /// Makes the slots ready for a message: for the first one they are one part, and for the second one the
+    /// first part is chained. It stays so while others are added to the late part. It takes no memory.
     pub(crate) fn prepare(&mut self, rows: &Rows)
         requires backed { AreBacked rows.now.rows.items self.old.slots.items }
-        requires chained { AreChained rows.now.rows.items self.old.slots.items self.old.chains.items }
-        ensures chained { AreChained rows.now.rows.items self.new.slots.items self.new.chains.items }
+        requires chained { AreChained rows.now.rows.items (take self.old.sorted self.old.slots.items) self.old.chains.items }
+        ensures chained { AreChained rows.now.rows.items (take self.new.sorted self.new.slots.items) self.new.chains.items }
         ensures slots { (q : Prefix) → open_at q self.new.slots.items ≡ open_at q self.old.slots.items }
-        ensures rises { IsStrictlySortedBy prefix_order (prefixes_at self.new.slots.items) }
         ensures withdrawn { withdrawn_count self.new.slots.items ≡ withdrawn_count self.old.slots.items }
         ensures capacity { vec_capacity self.new.slots ≡ vec_capacity self.old.slots }
     {

@@ -9,7 +9,6 @@ use Rattle.rs_outlet.specs.Inside.{AreDue, AreOwn, ArePlaced, ChangesFit, HaveRo
 use Rattle.rs_outlet.proofs.Pending.Backing.{are_backed_same, backed_step, own_rest}
 use Rattle.rs_outlet.specs.Pending.Slots.{prefixes_at, withdrawn_count}
 use Rattle.rs_outlet.specs.Pending.Owed.{prefixes_of}
-use Rattle.rs_outlet.proofs.Pending.Chains.{none_chained}
 use Rattle.rs_outlet.proofs.Pending.Carrying.{fresh_step, keeps_both, keeps_same, keeps_step, length_step, none_fresh, none_more, none_unlisted, unlisted_rest, unlisted_step}
 use Rattle.rs_outlet.proofs.Decided.LocByNumber.{same, same_is, by_number, numbered}
 use Rattle.rs_outlet.proofs.Decided.Numbering.{all_nil, no_elements}
@@ -101,7 +100,7 @@ pub returns-clause-none : goal.returns-clause-none
 returns-clause-none c = λ none. absurd (grind (arith, nat_tests, ap length none, c.args.changes.ok, c.is_empty.ensures, c.if-is_empty.false))
 
 pub returns-clause-chained : goal.returns-clause-chained
-returns-clause-chained c = λ _. none_chained _ _ _ c.add.ensures.chains
+returns-clause-chained c = λ _. c.add.ensures.chained c.loop-change.rows.rows.items
 
 pub returns-clause-loc : goal.returns-clause-loc
 returns-clause-loc c = λ ins due p d h q.

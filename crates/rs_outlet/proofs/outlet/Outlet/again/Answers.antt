@@ -1,4 +1,4 @@
-use Rattle.std.proofs.Common.{◌∙◌, ap, arith, is_some, sym}
+use Rattle.std.proofs.Common.{◌∙◌, ap, arith, is_some, sym, take}
 use Rattle.std.specs.FinMap as fin
 use Rattle.std.specs.FinSet as set
 use Rattle.rs_outlet.specs.Views.{View}
@@ -41,7 +41,7 @@ invariant_of-self c =
       slots = omega (arith, kept.slots, c.mark_all.ensures.withdrawn, c.mark_all.ensures.capacity);
       extended = kept.extended;
       backed = c.mark_all.ensures.backed kept.backed;
-      chained = none_chained a.rows.rows.items c.mark_all.new.self.slots.items _ c.mark_all.ensures.chains;
+      chained = none_chained a.rows.rows.items (take c.mark_all.new.self.sorted c.mark_all.new.self.slots.items) _ c.mark_all.ensures.chains;
       fit = kept.fit;
       asked = λ _ p.
           marked_all (loc_of a.rows.rows.items) a.waits.slots.items c.mark_all.new.self.slots.items c.mark_all.ensures.again (c.mark_all.ensures.all kept.backed) p

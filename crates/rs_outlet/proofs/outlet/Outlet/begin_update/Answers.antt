@@ -19,7 +19,7 @@ returns-clause-begins c = λ spoken e.
     let was = a.waits.slots.items in
     let ws = c.prepare.new.self.slots.items in
     let is = c.prepare.ensures.slots in
-    update_seen c.args.speech spoken (view_of a) c.args.self.now _ rows ws c.give_up.new.self.slots.items c.self.view_is (sym c.requires ∙ e) c.prepare.ensures.rises
+    update_seen c.args.speech spoken (view_of a) c.args.self.now _ rows ws c.give_up.new.self.slots.items c.self.view_is (sym c.requires ∙ e)
     (record { loc = refl; told = sym (told_same (loc_of rows) was ws is); marked = sym (marked_same (loc_of rows) was ws is); waits = sym (waits_same (loc_of rows) was ws is); numbers = λ ins h. all_front (λ (e : ℕ × Prefix). number_of ins e.1 ≡ Some e.0) (numbers_from 0 rows) _ h })
     (record { loc = refl; told = refl; marked = refl; waits = refl; numbers = λ ins h. all_front (λ (e : ℕ × Prefix). number_of ins e.1 ≡ Some e.0) (numbers_from 0 rows) _ h })
     c.put_update-packed.new.chosen.items c.put_update-packed.new.front.items c.put_update-packed.new.out.items c.put_update-packed.result

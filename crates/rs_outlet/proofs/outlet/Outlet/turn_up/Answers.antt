@@ -1,4 +1,4 @@
-use Rattle.std.proofs.Common.{◌≡◌, ◌∙◌, cond, ap, arith, ℕ, List, [], false, length, Option, Some, sym, subst}
+use Rattle.std.proofs.Common.{◌≡◌, ◌∙◌, cond, ap, arith, ℕ, List, [], false, length, Option, Some, sym, subst, take}
 use Rattle.std.proofs.lemmas.Bool.{and_parts}
 use Rattle.std.proofs.lemmas.Bool.Decides.{nat_tests}
 use Rattle.std.specs.FinMap as fin
@@ -167,7 +167,7 @@ invariant_of-self c =
       slots = omega (arith, kept.slots, c.make_room.ensures.used, ap withdrawn_count c.make_room.ensures.waits, c.make_room.ensures.capacity);
       extended = kept.extended;
       backed = are_backed_same a.rows.rows.items rows a.waits.slots.items c.make_room.new.waits.slots.items same_rows c.make_room.ensures.waits kept.backed;
-      chained = same_chained a.rows.rows.items rows a.waits.slots.items c.make_room.new.waits.slots.items a.waits.chains.items _ same_rows c.make_room.ensures.waits c.make_room.ensures.chains kept.chained;
+      chained = same_chained a.rows.rows.items rows (take a.waits.sorted a.waits.slots.items) (take c.make_room.new.waits.sorted c.make_room.new.waits.slots.items) a.waits.chains.items _ same_rows (λ i. take (c.make_room.ensures.sorted i) (c.make_room.ensures.waits i)) c.make_room.ensures.chains kept.chained;
       fit = λ speech is. fit_same speech a.rows.rows.items rows same_rows (kept.fit speech is);
       asked = λ is. asked_same (loc_of a.rows.rows.items) (loc_of rows) a.waits.slots.items c.make_room.new.waits.slots.items c.make_room.ensures.loc c.make_room.ensures.waits (kept.asked is);
     }
@@ -186,7 +186,7 @@ invariant_of-self-2 c =
       slots = c.commit.ensures.all;
       extended = kept.extended;
       backed = c.commit.ensures.backed (are_backed_same a.rows.rows.items c.make_room.new.rows.rows.items a.waits.slots.items c.make_room.new.waits.slots.items c.make_room.ensures.rows c.make_room.ensures.waits kept.backed);
-      chained = c.commit.ensures.chained (same_chained a.rows.rows.items c.make_room.new.rows.rows.items a.waits.slots.items c.make_room.new.waits.slots.items a.waits.chains.items _ c.make_room.ensures.rows c.make_room.ensures.waits c.make_room.ensures.chains kept.chained);
+      chained = c.commit.ensures.chained (same_chained a.rows.rows.items c.make_room.new.rows.rows.items (take a.waits.sorted a.waits.slots.items) (take c.make_room.new.waits.sorted c.make_room.new.waits.slots.items) a.waits.chains.items _ c.make_room.ensures.rows (λ i. take (c.make_room.ensures.sorted i) (c.make_room.ensures.waits i)) c.make_room.ensures.chains kept.chained);
       fit = fit_spoken c.commit.new.rows.rows.items a.speech c.args.speech is
           (c.commit.ensures.fit c.args.speech
           (changes_fit (held_by c.args.sources.now) c.args.sources.now.client c.args.speech c.in_ok-changes.field-0.changes.items c.in_ok-changes.ensures.changes.due)

@@ -1,15 +1,13 @@
-use Rattle.std.proofs.Common.{◌≡◌, ◌∙◌, drop, false, length, Some, refl, sym, subst, take, ap, rules}
+use Rattle.std.proofs.Common.{◌≡◌, ◌∙◌, drop, false, inr, length, Some, refl, sym, subst, take, ap, rules}
 use Rattle.std.specs.Prelude.{slice_get}
-use Rattle.std.proofs.lemmas.List.Elements.{AllWithin-set}
 use Rattle.std.proofs.lemmas.Option.{get_or_from_slice_get, slice_get_read}
-use Rattle.std.specs.List.{IsDistinct}
 use Rattle.std.specs.List.Sorted.{IsStrictlySortedBy}
-use Rattle.std.specs.Ordering.{eq_by_cmp}
 use Rattle.rs_octets.specs.Prefixes.{prefix_order}
 use Rattle.rs_outlet.specs.declared.waiting.Wait.{Wait}
 use Rattle.rs_outlet.specs.Pending.Slots.{is_withdrawn, is_announced}
-use Rattle.rs_outlet.proofs.Pending.Chains.{shut_by_hash, shut_chained}
-use Rattle.rs_outlet.proofs.Pending.Slots.{count_shut, count_one, count_less, same_prefixes, closed_at}
+use Rattle.rs_outlet.proofs.Pending.Chains.{first_shut_by_hash, first_shut_chained, none_set}
+use Rattle.rs_outlet.proofs.Pending.Slots.{count_shut, count_one, count_less, same_prefixes}
+use Rattle.rs_outlet.proofs.Pending.Apart.{shut_apart_at, shut_fewer}
 use Rattle.rs_outlet.proofs.Pending.Withdrawals.{withdrawn_less}
 use Rattle.rs_outlet.proofs.waiting.Waits.close.Goals as goal
 
@@ -32,21 +30,18 @@ invariant_of-self-clause-late c =
     c.args.self.now.late
 
 pub invariant_of-self-clause-apart : goal.invariant_of-self-clause-apart
-invariant_of-self-clause-apart c =
-    subst (IsDistinct (eq_by_cmp prefix_order))
-    (sym (same_prefixes c.args.self.now.slots.items c.args.slot _ c.index_mut-wait.result.now (ap (λ (w : Wait). w.prefix) c.index_mut-wait.ensures.value)))
-    c.args.self.now.apart
+invariant_of-self-clause-apart c = shut_fewer c.args.self.now.slots.items c.args.slot _ c.index_mut-wait.result.now (search rules) refl c.args.self.now.apart
 
 pub invariant_of-self-clause-withdrawn : goal.invariant_of-self-clause-withdrawn
-invariant_of-self-clause-withdrawn c = AllWithin-set (λ w. is_withdrawn w ≡ false) c.args.self.now.slots.items 0 c.args.self.now.gone c.args.slot _ (search rules) refl c.args.self.now.withdrawn
+invariant_of-self-clause-withdrawn c = none_set is_withdrawn c.args.self.now.sorted c.args.self.now.gone c.args.self.now.slots.items c.args.slot _ (search rules) refl c.args.self.now.withdrawn
 
 pub invariant_of-self-clause-announced : goal.invariant_of-self-clause-announced
-invariant_of-self-clause-announced c = AllWithin-set (λ w. is_announced w ≡ false) c.args.self.now.slots.items 0 c.args.self.now.news c.args.slot _ (search rules) refl c.args.self.now.announced
+invariant_of-self-clause-announced c = none_set is_announced c.args.self.now.sorted c.args.self.now.news c.args.self.now.slots.items c.args.slot _ (search rules) refl c.args.self.now.announced
 
 pub invariant_of-self-clause-by_hash : goal.invariant_of-self-clause-by_hash
 invariant_of-self-clause-by_hash c = λ is.
     let ws = c.args.self.now.slots.items in
-    shut_by_hash ws c.args.slot c.index_mut-wait.result.now _ c.args.self.now.chains.items (slice_get_read ws (length ws) c.args.slot c.index_mut-wait.result.now refl (search rules) c.index_mut-wait.ensures.value) refl refl (c.args.self.now.by_hash is)
+    first_shut_by_hash c.args.self.now.sorted ws c.args.slot c.index_mut-wait.result.now _ c.args.self.now.chains.items (slice_get_read ws (length ws) c.args.slot c.index_mut-wait.result.now refl (search rules) c.index_mut-wait.ensures.value) refl refl (c.args.self.now.by_hash is)
 
 pub returns : goal.returns
 returns c =
@@ -55,9 +50,10 @@ returns c =
     let is : (w : Wait) → slice_get ws c.args.slot ≡ Some w → was ≡ w = λ w at. c.index_mut-wait.ensures.value ∙ get_or_from_slice_get ws c.args.slot w was at in
     record {
       prefixes = same_prefixes ws c.args.slot _ was (ap (λ (w : Wait). w.prefix) c.index_mut-wait.ensures.value);
-      slots = λ p at q. closed_at ws c.args.slot p _ c.args.self.now.apart at refl q;
+      shut = inr (was, _, slice_get_read ws (length ws) c.args.slot was refl (search rules) c.index_mut-wait.ensures.value, refl, refl);
+      slots = λ w at opened q. shut_apart_at ws c.args.slot w _ c.args.self.now.apart at opened refl q;
       told = λ w at. (c.replace-told.ensures.value ∙ ap (λ (w : Wait). w.told) (is w at), ap (λ (w : Wait). w.marked) (is w at));
-      chained = λ rows. shut_chained rows ws c.args.slot was _ c.args.self.now.chains.items (slice_get_read ws (length ws) c.args.slot was refl (search rules) c.index_mut-wait.ensures.value) refl refl;
+      chained = λ rows. first_shut_chained rows c.args.self.now.sorted ws c.args.slot was _ c.args.self.now.chains.items (slice_get_read ws (length ws) c.args.slot was refl (search rules) c.index_mut-wait.ensures.value) refl refl;
       count = count_less ws c.args.slot _ was (search rules) refl;
       withdrawn = withdrawn_less ws c.args.slot _ was (search rules) refl;
       capacity = refl;

@@ -1,77 +1,103 @@
-use Rattle.std.proofs.Common.{◌≡◌, ◌+◌, ◌<◌, ◌∙◌, ℕ, zero, suc, Some, length, ap, arith, inl, inr, refl, rules, sym, subst, vec_len}
-use Rattle.std.specs.Prelude.{◌⊎◌}
-use Rattle.std.specs.List.{HoldsAt}
-use Rattle.rs_outlet.specs.Pending.Choosing.{WaitsFor, shares}
-use Rattle.rs_outlet.proofs.Message.Chosen.{as_many, none_chosen, there_backed}
-use Rattle.rs_outlet.proofs.Message.Fullest.{listed_all, listed_later, listed_none, listed_one}
-use Rattle.rs_outlet.proofs.Message.Rising.{head_first, head_more, none_listed, rise_more}
+use Rattle.std.proofs.Common.{◌≡◌, ◌∙◌, ◌<◌, ◌≤◌, ◌++◌, ◌∷◌, [], Option, Some, List, ap, arith, inl, inr, length, refl, true, subst, sym, vec_len}
+use Rattle.std.proofs.lemmas.Bool.{and_parts}
+use Rattle.rs_attrs.specs.Meaning.{Attribute}
+use Rattle.rs_outlet.specs.declared.rows.Row.{Row}
+use Rattle.rs_outlet.specs.declared.waiting.Wait.{Wait}
+use Rattle.rs_outlet.specs.Inside.{IsBacked, row_by, shown}
+use Rattle.rs_outlet.specs.Message.Next.{has_attributes}
+use Rattle.rs_outlet.specs.Pending.Slots.{is_announced}
+use Rattle.rs_outlet.specs.Pending.Choosing.{HaveRoom, passing, shares}
+use Rattle.rs_outlet.proofs.Message.AllWaiting.{not_shared}
+use Rattle.rs_outlet.proofs.Message.Chosen.{as_many, none_chosen}
+use Rattle.rs_outlet.proofs.Message.Collected.{AreCollected, at_index, both_rise, collected_all, collected_first, collected_late, collected_none, not_before, of_first, of_late, read_holds}
+use Rattle.rs_outlet.proofs.Pending.Apart.{found_apart}
+use Rattle.rs_outlet.proofs.waiting.Waits.collect_announced.Goals.{then-slot-self, else-slot-self}
 use Rattle.rs_outlet.proofs.waiting.Waits.collect_announced.Goals as goal
 
-none_or_some : (n : ℕ) → (n ≡ 0) ⊎ (0 < n)
-none_or_some zero = inl refl
-none_or_some (suc n) = inr (omega arith)
+opens : (rows : List (Option Row)) (m : List Attribute) (w : Wait) → shares rows m w ≡ true → w.open ≡ true
+opens rows m w is = (and_parts w.open (has_attributes (shown (row_by rows w.due)) m) is).0
+
+pub loop-init : goal.loop-init
+loop-init c =
+    let was = c.args.self.now in
+    let rows = c.args.rows.now.rows.items in
+    record {
+      chosen = refl;
+      front = refl;
+      past = omega arith;
+      within = was.within;
+      far = omega arith;
+      are = λ are. are;
+      all = λ _ _ _ _ _ none. collected_none (shares rows c.args.attrs.now) (opens rows c.args.attrs.now) was.slots.items was.sorted c.args.room was.apart was.news c.args.front.now.items none
+          (λ n w at below within. not_shared rows c.args.attrs.now w (not_before is_announced was.sorted 0 was.news was.slots.items was.announced n w at (omega arith) below within));
+    }
 
 pub loop-preserved : goal.loop-preserved
 loop-preserved c =
+    let was = c.args.self.now in
+    let ws = was.slots.items in
     let inv = c.loop.invariant in
-    record {
-      chosen = c.list_announced-listed.ensures.chosen ∙ inv.chosen;
-      front = c.list_announced-listed.ensures.front ∙ inv.front;
-      first = λ never. absurd (omega (arith, never));
-      some = λ _ at below room. elim (none_or_some c.loop.counter) [
-        | inl start ↦
-            let was = inv.first start in
-            c.list_announced-listed.ensures.listed (subst (HoldsAt (WaitsFor c.args.rows.now.rows.items c.args.attrs.now) c.args.self.now.slots.items) (sym was.0) at)
-            (omega (arith, room.0, was.2, inv.chosen), omega (arith, room.1, was.1, inv.front))
-        | inr more ↦
-            let some : 0 < vec_len c.loop.front = inv.some more at below room in
-            omega (arith, some, c.list_announced-listed.ensures.grows)
-      ];
-      same = λ never. absurd (omega (arith, never));
-      head = λ _ at below room none. elim (none_or_some c.loop.counter) [
-        | inl start ↦
-            let was = inv.first start in
-            let there = c.list_announced-listed.ensures.there (subst (HoldsAt (WaitsFor c.args.rows.now.rows.items c.args.attrs.now) c.args.self.now.slots.items) (sym was.0) at)
-            (omega (arith, room.0, was.2, inv.chosen), omega (arith, room.1, was.1, inv.front)) in
-            head_first c.loop.slot c.loop.chosen.items c.list_announced-listed.new.chosen.items (inv.same start ∙ none) there ∙ ap (λ n. Some n) was.0
-        | inr more ↦ head_more c.args.first c.loop.slot c.loop.chosen.items c.list_announced-listed.new.chosen.items c.list_announced-listed.ensures.slots (inv.head more at below room none)
-      ];
-      rise = λ none. rise_more c.loop.slot _ c.loop.chosen.items c.list_announced-listed.new.chosen.items c.list_announced-listed.ensures.slots (search rules) (inv.rise none).0 (inv.rise none).1;
-      far = omega (arith, inv.far, c.next_slot-slot.ensures.later);
-      all = λ chained backed wide long none none_front.
-          let rows = c.args.rows.now.rows.items in
-          let ws = c.args.self.now.slots.items in
-          let m = c.args.attrs.now in
-          let even = as_many rows ws (Some m) c.loop.chosen.items c.loop.front.items (inv.are (none_chosen rows ws (Some m) _ _ none none_front)) in
-          let more : vec_len c.loop.front < c.args.room = search rules in
-          let below : c.loop.slot < length ws = search rules in
-          listed_later (shares rows m) ws c.args.room c.args.first (c.loop.slot + 1) c.next_slot-slot.result c.list_announced-listed.new.front.items (omega (arith, c.next_slot-slot.ensures.later))
-          (λ n z at low high. c.next_slot-slot.ensures.between rows m chained backed (sym c.kept_hash-hash.ensures) c.list_announced-listed.ensures.waits n z at (omega (arith, low)) high)
-          (listed_one (shares rows m) ws c.args.room c.args.first c.loop.slot c.loop.front.items c.list_announced-listed.new.front.items below
-          (omega (arith, more, c.loop.front.ok))
-          (λ d.
-          c.list_announced-listed.ensures.all
-          (omega (arith, more, even, wide, inv.chosen, c.loop.front.ok, c.loop.chosen.ok), omega (arith, more, long, inv.front)) d
-          (there_backed rows ws c.loop.slot d c.args.self.now.apart backed below))
-          (inv.all chained backed wide long none none_front));
-      are = λ are. c.list_announced-listed.ensures.are (inv.are are);
-    }
-
-pub loop-init : goal.loop-init
-loop-init c = record {
-  chosen = refl;
-  front = refl;
-  first = λ _. (refl, refl, refl);
-  some = λ never. absurd (omega (arith, never));
-  same = λ _. refl;
-  head = λ never. absurd (omega (arith, never));
-  rise = none_listed c.args.first c.args.chosen.now.items;
-  far = omega arith;
-  all = λ _ _ _ _ _ none. listed_none (shares c.args.rows.now.rows.items c.args.attrs.now) c.args.self.now.slots.items c.args.room c.args.first c.args.front.now.items none;
-  are = λ are. are;
-}
+    elim c.if-slot-self.branch [
+      | then-slot-self w ↦
+          let which : c.in-Some.slot ≡ c.loop.first = of_first c.in-Some.slot c.loop.first c.loop.late was.sorted c.in-Some.ensures.either w.if-slot-self.true inv.past in
+          record {
+            chosen = c.list_announced-listed.ensures.chosen ∙ inv.chosen;
+            front = c.list_announced-listed.ensures.front ∙ inv.front;
+            past = omega (arith, w.late-is, inv.past);
+            within = omega (arith, w.late-is, inv.within);
+            far = omega (arith, inv.far, w.first-is, w.late-is, which, w.if-slot-self.true, w.next_slot-first.ensures.later);
+            are = λ are. c.list_announced-listed.ensures.are (inv.are are);
+            all = λ chained backed wide long none none_front.
+                let even = as_many c.args.rows.now.rows.items ws (Some c.args.attrs.now) c.loop.chosen.items c.loop.front.items (inv.are (none_chosen c.args.rows.now.rows.items ws (Some c.args.attrs.now) _ _ none none_front)) in
+                let more : vec_len c.loop.front < c.args.room = omega (arith, c.if-room-len.false, c.len.ensures) in
+                let v = at_index ws c.in-Some.slot (omega (arith, c.in-Some.ensures.within, was.slots.ok)) in
+                let have : HaveRoom c.loop.chosen c.loop.front = (omega (arith, more, even, wide, inv.chosen, c.loop.front.ok, c.loop.chosen.ok), omega (arith, more, long, inv.front)) in
+                let added = read_holds (λ (v : Wait). (v.open ≡ true → IsBacked c.args.rows.now.rows.items v.prefix v.due) → c.list_announced-listed.new.front.items ≡ c.loop.front.items ++ passing (shares c.args.rows.now.rows.items c.args.attrs.now) (v ∷ [])) ws c.in-Some.slot v.0 v.1 (c.list_announced-listed.ensures.all have) (λ opened. backed v.0.prefix v.0 (found_apart ws c.in-Some.slot v.0 was.apart v.1 opened)) in
+                subst (λ l. AreCollected (shares c.args.rows.now.rows.items c.args.attrs.now) ws was.sorted c.args.room c.if-slot-self.first l c.list_announced-listed.new.front.items) (sym w.late-is)
+                (collected_first (shares c.args.rows.now.rows.items c.args.attrs.now) (opens c.args.rows.now.rows.items c.args.attrs.now) ws was.sorted c.args.room was.apart c.loop.first c.loop.late c.if-slot-self.first c.in-Some.slot v.0 c.loop.front.items c.list_announced-listed.new.front.items
+                (both_rise was.sorted ws was.first was.late) v.1 which w.if-slot-self.true inv.past (omega (arith, w.first-is, w.next_slot-first.ensures.later))
+                (λ n z at low high. w.next_slot-first.ensures.between c.args.rows.now.rows.items c.args.attrs.now chained backed (sym c.kept_hash-hash.ensures) c.list_announced-listed.ensures.waits n z at low (omega (arith, high, w.first-is)))
+                c.in-Some.ensures.least (omega (arith, more, c.loop.front.ok)) added (inv.all chained backed wide long none none_front));
+          }
+      | else-slot-self w ↦
+          let which : c.in-Some.slot ≡ c.loop.late = of_late c.in-Some.slot c.loop.first c.loop.late was.sorted c.in-Some.ensures.either w.if-slot-self.false in
+          record {
+            chosen = c.list_announced-listed.ensures.chosen ∙ inv.chosen;
+            front = c.list_announced-listed.ensures.front ∙ inv.front;
+            past = omega (arith, w.late-is, inv.past, which);
+            within = omega (arith, w.late-is, c.in-Some.ensures.within);
+            far = omega (arith, inv.far, w.first-is, w.late-is, which);
+            are = λ are. c.list_announced-listed.ensures.are (inv.are are);
+            all = λ chained backed wide long none none_front.
+                let even = as_many c.args.rows.now.rows.items ws (Some c.args.attrs.now) c.loop.chosen.items c.loop.front.items (inv.are (none_chosen c.args.rows.now.rows.items ws (Some c.args.attrs.now) _ _ none none_front)) in
+                let more : vec_len c.loop.front < c.args.room = omega (arith, c.if-room-len.false, c.len.ensures) in
+                let v = at_index ws c.in-Some.slot (omega (arith, c.in-Some.ensures.within, was.slots.ok)) in
+                let have : HaveRoom c.loop.chosen c.loop.front = (omega (arith, more, even, wide, inv.chosen, c.loop.front.ok, c.loop.chosen.ok), omega (arith, more, long, inv.front)) in
+                let added = read_holds (λ (v : Wait). (v.open ≡ true → IsBacked c.args.rows.now.rows.items v.prefix v.due) → c.list_announced-listed.new.front.items ≡ c.loop.front.items ++ passing (shares c.args.rows.now.rows.items c.args.attrs.now) (v ∷ [])) ws c.in-Some.slot v.0 v.1 (c.list_announced-listed.ensures.all have) (λ opened. backed v.0.prefix v.0 (found_apart ws c.in-Some.slot v.0 was.apart v.1 opened)) in
+                subst (λ f. AreCollected (shares c.args.rows.now.rows.items c.args.attrs.now) ws was.sorted c.args.room f c.if-slot-self.late c.list_announced-listed.new.front.items) (sym w.first-is)
+                (collected_late (shares c.args.rows.now.rows.items c.args.attrs.now) (opens c.args.rows.now.rows.items c.args.attrs.now) ws was.sorted c.args.room was.apart c.loop.first c.loop.late c.if-slot-self.late c.in-Some.slot v.0 c.loop.front.items c.list_announced-listed.new.front.items
+                (both_rise was.sorted ws was.first was.late) v.1 which inv.past w.late-is c.in-Some.ensures.least (omega (arith, more, c.loop.front.ok)) added (inv.all chained backed wide long none none_front));
+          }
+    ]
 
 pub returns-clause-all : goal.returns-clause-all
 returns-clause-all c = λ chained backed wide long none none_front.
-    listed_all (shares c.args.rows.now.rows.items c.args.attrs.now) c.args.self.now.slots.items c.args.room c.args.first c.loop.slot c.loop.front.items
-    (search rules) (c.loop.invariant.all chained backed wide long none none_front)
+    let was = c.args.self.now in
+    collected_all (shares c.args.rows.now.rows.items c.args.attrs.now) (opens c.args.rows.now.rows.items c.args.attrs.now) was.slots.items was.sorted c.args.room was.apart c.loop.first c.loop.late c.loop.front.items
+    (inr (omega (arith, c.loop.invariant.far, c.loop.invariant.within, c.loop-test.false, c.len-end.ensures), omega (arith, c.loop.invariant.far, c.loop.invariant.within, c.loop-test.false, c.len-end.ensures, was.slots.ok)))
+    (c.loop.invariant.all chained backed wide long none none_front)
+
+pub returns-then-room-len-clause-all : goal.returns-then-room-len-clause-all
+returns-then-room-len-clause-all c = λ chained backed wide long none none_front.
+    let was = c.args.self.now in
+    collected_all (shares c.args.rows.now.rows.items c.args.attrs.now) (opens c.args.rows.now.rows.items c.args.attrs.now) was.slots.items was.sorted c.args.room was.apart c.loop.first c.loop.late c.loop.front.items
+    (inl (omega (arith, c.if-room-len.true, c.len.ensures, c.loop.front.ok)))
+    (c.loop.invariant.all chained backed wide long none none_front)
+
+pub returns-in_default-clause-all : goal.returns-in_default-clause-all
+returns-in_default-clause-all c = λ chained backed wide long none none_front.
+    let was = c.args.self.now in
+    let ended = c.lesser.ensures.none c.in_default.is in
+    collected_all (shares c.args.rows.now.rows.items c.args.attrs.now) (opens c.args.rows.now.rows.items c.args.attrs.now) was.slots.items was.sorted c.args.room was.apart c.loop.first c.loop.late c.loop.front.items
+    (inr (ended.0, omega (arith, ended.1, was.slots.ok)))
+    (c.loop.invariant.all chained backed wide long none none_front)

@@ -1,64 +1,96 @@
-use Rattle.std.proofs.Common.{◌≡◌, ◌<◌, ◌∙◌, [], None, Some, ap, arith, inl, inr, refl, rules, sym, subst, vec_len}
-use Rattle.std.specs.Prelude.{true}
-use Rattle.std.specs.List.{HoldsAt}
-use Rattle.std.proofs.lemmas.Bool.{cases_eq}
-use Rattle.rs_outlet.specs.Pending.Slots.{is_withdrawn}
+use Rattle.std.proofs.Common.{◌≡◌, ◌∙◌, ◌<◌, ◌≤◌, ◌++◌, ◌∷◌, [], None, ap, arith, inl, inr, length, refl, true, subst, sym, vec_len}
+use Rattle.std.proofs.lemmas.Bool.{and_parts}
+use Rattle.rs_outlet.specs.declared.waiting.Wait.{Wait}
+use Rattle.rs_outlet.specs.Pending.Slots.{is_withdrawal, is_withdrawn}
+use Rattle.rs_outlet.specs.Pending.Choosing.{HaveRoom, passing}
 use Rattle.rs_outlet.proofs.Message.Chosen.{as_many, none_chosen}
-use Rattle.rs_outlet.proofs.Message.Fullest.{listed_all, listed_none, listed_one}
-use Rattle.rs_outlet.proofs.Message.Rising.{head_first, head_more, none_listed, rise_more}
+use Rattle.rs_outlet.proofs.Message.Collected.{AreCollected, at_index, both_rise, collected_all, collected_first, collected_late, collected_none, not_before, of_first, of_late, read_holds}
+use Rattle.rs_outlet.proofs.waiting.Waits.collect_withdrawn.Goals.{then-slot-self, else-slot-self}
 use Rattle.rs_outlet.proofs.waiting.Waits.collect_withdrawn.Goals as goal
 
-pub loop-slot-init : goal.loop-slot-init
-loop-slot-init c = record {
-  chosen = refl;
-  front = refl;
-  first = λ _. (refl, refl);
-  some = λ never. absurd (omega (arith, never));
-  same = λ _. refl;
-  head = λ never. absurd (omega (arith, never));
-  rise = none_listed c.args.first c.args.chosen.now.items;
-  all = λ _ _ _ none. listed_none is_withdrawn c.args.self.now.slots.items c.args.room c.args.first c.args.front.now.items none;
-  are = λ rows are. are;
-}
+opens : (w : Wait) → is_withdrawn w ≡ true → w.open ≡ true
+opens w is = (and_parts w.open (is_withdrawal w.due) is).0
 
-pub loop-slot-preserved : goal.loop-slot-preserved
-loop-slot-preserved c =
-    let inv = c.loop-slot.invariant in
+pub loop-init : goal.loop-init
+loop-init c =
+    let was = c.args.self.now in
     record {
-      chosen = c.list_withdrawn.ensures.chosen ∙ inv.chosen;
-      front = c.list_withdrawn.ensures.front ∙ inv.front;
-      first = λ never. search rules;
-      some = λ _ at below room. elim (cases_eq c.loop-slot.slot c.args.first) [
-        | inl start ↦
-            let was = inv.first start in
-            c.list_withdrawn.ensures.listed (subst (HoldsAt (λ w. is_withdrawn w ≡ true) c.args.self.now.slots.items) (sym start) at)
-            (omega (arith, room.0, was.1, inv.chosen), omega (arith, room.1, was.0, inv.front))
-        | inr ne ↦
-            let some : 0 < vec_len c.loop-slot.front = inv.some (search rules) at below room in
-            omega (arith, some, c.list_withdrawn.ensures.grows)
-      ];
-      same = λ never. search rules;
-      head = λ _ at below room none. elim (cases_eq c.loop-slot.slot c.args.first) [
-        | inl start ↦
-            let was = inv.first start in
-            let there = c.list_withdrawn.ensures.there (subst (HoldsAt (λ w. is_withdrawn w ≡ true) c.args.self.now.slots.items) (sym start) at)
-            (omega (arith, room.0, was.1, inv.chosen), omega (arith, room.1, was.0, inv.front)) in
-            head_first c.loop-slot.slot c.loop-slot.chosen.items c.list_withdrawn.new.chosen.items (inv.same start ∙ none) there ∙ ap (λ n. Some n) start
-        | inr ne ↦ head_more c.args.first c.loop-slot.slot c.loop-slot.chosen.items c.list_withdrawn.new.chosen.items c.list_withdrawn.ensures.slots (inv.head (search rules) at below room none)
-      ];
-      rise = λ none. rise_more c.loop-slot.slot _ c.loop-slot.chosen.items c.list_withdrawn.new.chosen.items c.list_withdrawn.ensures.slots (search rules) (inv.rise none).0 (inv.rise none).1;
-      all = λ wide long none none_front.
-          let even = as_many [] c.args.self.now.slots.items None c.loop-slot.chosen.items c.loop-slot.front.items (inv.are [] (none_chosen [] c.args.self.now.slots.items None _ _ none none_front)) in
-          let more : vec_len c.loop-slot.front < c.args.room = search rules in
-          listed_one is_withdrawn c.args.self.now.slots.items c.args.room c.args.first c.loop-slot.slot c.loop-slot.front.items c.list_withdrawn.new.front.items (search rules)
-          (omega (arith, more, c.loop-slot.front.ok))
-          (c.list_withdrawn.ensures.all
-          (omega (arith, more, even, wide, inv.chosen, c.loop-slot.front.ok, c.loop-slot.chosen.ok), omega (arith, more, long, inv.front)))
-          (inv.all wide long none none_front);
-      are = λ rows are. c.list_withdrawn.ensures.are rows (inv.are rows are);
+      chosen = refl;
+      front = refl;
+      past = omega arith;
+      within = was.within;
+      far = omega arith;
+      are = λ rows are. are;
+      all = λ _ _ _ none. collected_none is_withdrawn opens was.slots.items was.sorted c.args.room was.apart was.gone c.args.front.now.items none
+          (λ n w at below within. not_before is_withdrawn was.sorted 0 was.gone was.slots.items was.withdrawn n w at (omega arith) below within);
     }
+
+pub loop-preserved : goal.loop-preserved
+loop-preserved c =
+    let was = c.args.self.now in
+    let ws = was.slots.items in
+    let inv = c.loop.invariant in
+    elim c.if-slot-self.branch [
+      | then-slot-self w ↦
+          let which : c.in-Some.slot ≡ c.loop.first = of_first c.in-Some.slot c.loop.first c.loop.late was.sorted c.in-Some.ensures.either w.if-slot-self.true inv.past in
+          record {
+            chosen = c.list_withdrawn.ensures.chosen ∙ inv.chosen;
+            front = c.list_withdrawn.ensures.front ∙ inv.front;
+            past = omega (arith, w.late-is, inv.past);
+            within = omega (arith, w.late-is, inv.within);
+            far = omega (arith, inv.far, w.first-is, w.late-is, which, w.if-slot-self.true);
+            are = λ rows are. c.list_withdrawn.ensures.are rows (inv.are rows are);
+            all = λ wide long none none_front.
+                let even = as_many [] ws None c.loop.chosen.items c.loop.front.items (inv.are [] (none_chosen [] ws None _ _ none none_front)) in
+                let more : vec_len c.loop.front < c.args.room = omega (arith, c.if-room-len.false, c.len.ensures) in
+                let v = at_index ws c.in-Some.slot (omega (arith, c.in-Some.ensures.within, was.slots.ok)) in
+                let have : HaveRoom c.loop.chosen c.loop.front = (omega (arith, more, even, wide, inv.chosen, c.loop.front.ok, c.loop.chosen.ok), omega (arith, more, long, inv.front)) in
+                let added = read_holds (λ (v : Wait). c.list_withdrawn.new.front.items ≡ c.loop.front.items ++ passing is_withdrawn (v ∷ [])) ws c.in-Some.slot v.0 v.1 (c.list_withdrawn.ensures.all have) in
+                subst (λ l. AreCollected is_withdrawn ws was.sorted c.args.room c.if-slot-self.first l c.list_withdrawn.new.front.items) (sym w.late-is)
+                (collected_first is_withdrawn opens ws was.sorted c.args.room was.apart c.loop.first c.loop.late c.if-slot-self.first c.in-Some.slot v.0 c.loop.front.items c.list_withdrawn.new.front.items
+                (both_rise was.sorted ws was.first was.late) v.1 which w.if-slot-self.true inv.past (omega (arith, w.first-is))
+                (λ n z at low high. absurd (omega (arith, low, high, w.first-is)))
+                c.in-Some.ensures.least (omega (arith, more, c.loop.front.ok)) added (inv.all wide long none none_front));
+          }
+      | else-slot-self w ↦
+          let which : c.in-Some.slot ≡ c.loop.late = of_late c.in-Some.slot c.loop.first c.loop.late was.sorted c.in-Some.ensures.either w.if-slot-self.false in
+          record {
+            chosen = c.list_withdrawn.ensures.chosen ∙ inv.chosen;
+            front = c.list_withdrawn.ensures.front ∙ inv.front;
+            past = omega (arith, w.late-is, inv.past, which);
+            within = omega (arith, w.late-is, c.in-Some.ensures.within);
+            far = omega (arith, inv.far, w.first-is, w.late-is, which);
+            are = λ rows are. c.list_withdrawn.ensures.are rows (inv.are rows are);
+            all = λ wide long none none_front.
+                let even = as_many [] ws None c.loop.chosen.items c.loop.front.items (inv.are [] (none_chosen [] ws None _ _ none none_front)) in
+                let more : vec_len c.loop.front < c.args.room = omega (arith, c.if-room-len.false, c.len.ensures) in
+                let v = at_index ws c.in-Some.slot (omega (arith, c.in-Some.ensures.within, was.slots.ok)) in
+                let have : HaveRoom c.loop.chosen c.loop.front = (omega (arith, more, even, wide, inv.chosen, c.loop.front.ok, c.loop.chosen.ok), omega (arith, more, long, inv.front)) in
+                let added = read_holds (λ (v : Wait). c.list_withdrawn.new.front.items ≡ c.loop.front.items ++ passing is_withdrawn (v ∷ [])) ws c.in-Some.slot v.0 v.1 (c.list_withdrawn.ensures.all have) in
+                subst (λ f. AreCollected is_withdrawn ws was.sorted c.args.room f c.if-slot-self.late c.list_withdrawn.new.front.items) (sym w.first-is)
+                (collected_late is_withdrawn opens ws was.sorted c.args.room was.apart c.loop.first c.loop.late c.if-slot-self.late c.in-Some.slot v.0 c.loop.front.items c.list_withdrawn.new.front.items
+                (both_rise was.sorted ws was.first was.late) v.1 which inv.past w.late-is c.in-Some.ensures.least (omega (arith, more, c.loop.front.ok)) added (inv.all wide long none none_front));
+          }
+    ]
 
 pub returns-clause-all : goal.returns-clause-all
 returns-clause-all c = λ wide long none none_front.
-    listed_all is_withdrawn c.args.self.now.slots.items c.args.room c.args.first c.loop-slot.slot c.loop-slot.front.items (search rules)
-    (c.loop-slot.invariant.all wide long none none_front)
+    let was = c.args.self.now in
+    collected_all is_withdrawn opens was.slots.items was.sorted c.args.room was.apart c.loop.first c.loop.late c.loop.front.items
+    (inr (omega (arith, c.loop.invariant.far, c.loop.invariant.within, c.loop-test.false, c.len-end.ensures), omega (arith, c.loop.invariant.far, c.loop.invariant.within, c.loop-test.false, c.len-end.ensures, was.slots.ok)))
+    (c.loop.invariant.all wide long none none_front)
+
+pub returns-then-room-len-clause-all : goal.returns-then-room-len-clause-all
+returns-then-room-len-clause-all c = λ wide long none none_front.
+    let was = c.args.self.now in
+    collected_all is_withdrawn opens was.slots.items was.sorted c.args.room was.apart c.loop.first c.loop.late c.loop.front.items
+    (inl (omega (arith, c.if-room-len.true, c.len.ensures, c.loop.front.ok)))
+    (c.loop.invariant.all wide long none none_front)
+
+pub returns-in_default-clause-all : goal.returns-in_default-clause-all
+returns-in_default-clause-all c = λ wide long none none_front.
+    let was = c.args.self.now in
+    let ended = c.lesser.ensures.none c.in_default.is in
+    collected_all is_withdrawn opens was.slots.items was.sorted c.args.room was.apart c.loop.first c.loop.late c.loop.front.items
+    (inr (ended.0, omega (arith, ended.1, was.slots.ok)))
+    (c.loop.invariant.all wide long none none_front)

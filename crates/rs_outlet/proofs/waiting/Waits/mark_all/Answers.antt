@@ -5,6 +5,7 @@ use Rattle.rs_octets.specs.Prefixes.{prefix_order}
 use Rattle.rs_outlet.specs.Inside.{loc_of}
 use Rattle.rs_outlet.specs.Pending.Marking.{MayWaitAgain}
 use Rattle.rs_outlet.specs.Pending.Slots.{open_at, prefixes_at}
+use Rattle.rs_outlet.proofs.Pending.Apart.{distinct_apart}
 use Rattle.rs_outlet.proofs.Pending.TwoParts.{whole_first, whole_late}
 use Rattle.rs_outlet.proofs.Pending.Unchanged.{backed_same}
 use Rattle.rs_outlet.proofs.waiting.Waits.mark_all.Goals as goal
@@ -19,7 +20,7 @@ pub invariant_of-self-clause-late : goal.invariant_of-self-clause-late
 invariant_of-self-clause-late c = whole_late c.len-self.result c.add_rows.new.slots.items (omega (arith, c.len-self.ensures, c.add_rows.new.slots.ok))
 
 pub invariant_of-self-clause-apart : goal.invariant_of-self-clause-apart
-invariant_of-self-clause-apart c = IsDistinct-from_sorted prefix_order (prefixes_at c.add_rows.new.slots.items) c.add_rows.ensures.rises
+invariant_of-self-clause-apart c = distinct_apart c.add_rows.new.slots.items (IsDistinct-from_sorted prefix_order (prefixes_at c.add_rows.new.slots.items) c.add_rows.ensures.rises)
 
 pub returns : goal.returns
 returns c =

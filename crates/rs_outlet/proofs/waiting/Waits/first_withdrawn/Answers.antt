@@ -1,0 +1,12 @@
+use Rattle.std.proofs.Common.{arith}
+use Rattle.rs_outlet.specs.Pending.Slots.{is_withdrawn}
+use Rattle.rs_outlet.proofs.Message.Collected.{both_rise, least_both}
+use Rattle.rs_outlet.proofs.waiting.Waits.first_withdrawn.Goals as goal
+
+pub returns-clause-first : goal.returns-clause-first
+returns-clause-first c =
+    let was = c.args.self.now in
+    least_both is_withdrawn was.slots.items c.deref.result.now c.deref-2.result.now was.sorted was.gone c.next_withdrawn-self.result c.next_withdrawn-late.result was.slots.len
+    c.deref.ensures.value c.deref-2.ensures.value (omega (arith, was.slots.ok)) (omega (arith, was.within, was.slots.ok)) (both_rise was.sorted was.slots.items was.first was.late)
+    was.withdrawn c.next_withdrawn-self.ensures.before c.next_withdrawn-self.ensures.there c.next_withdrawn-late.ensures.later c.next_withdrawn-late.ensures.before c.next_withdrawn-late.ensures.there
+    c.lesser.result c.lesser.ensures.within c.lesser.ensures.either c.lesser.ensures.least c.lesser.ensures.none
