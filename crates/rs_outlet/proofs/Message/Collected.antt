@@ -1,13 +1,11 @@
 -- The prefixes collected for a message from both parts beside each other: they are the front of all that pass a test, in order.
-use Rattle.std.proofs.Common.{◌≡◌, ◌≢◌, ◌+◌, ◌-◌, ◌<◌, ◌≤◌, ℕ, zero, suc, Bool, true, false, cond, ◌||◌, Option, None, Some, List, [], ◌∷◌, ◌++◌, length, take, drop, get_or, append-nil, length-append, refl, sym, ap, ◌∙◌, subst, arith, inl, inr}
+use Rattle.std.proofs.Common.{◌≡◌, ◌≢◌, ◌+◌, ◌<◌, ◌≤◌, ℕ, zero, suc, Bool, true, false, Option, None, Some, List, [], ◌∷◌, ◌++◌, length, take, drop, append-nil, length-append, refl, sym, ap, ◌∙◌, subst, arith, inl, inr}
 use Rattle.std.specs.Prelude.{◌⊎◌, IfSome, slice_get}
-use Rattle.std.specs.List.{AllByRecursion, AllWithin, HoldsAt, list_any}
+use Rattle.std.specs.List.{AllByRecursion, AllWithin, HoldsAt}
 use Rattle.std.specs.List.Sorted.{IsStrictlySortedBy}
 use Rattle.std.specs.declared.cmp.Ordering.{Ordering}
 use Rattle.std.specs.declared.cmp.Ordering.TheVariants.{Less, Equal, Greater}
 use Rattle.std.proofs.lemmas.Bool.{cases_eq, cases_lt}
-use Rattle.std.proofs.lemmas.List.Folds.{list_any-append}
-use Rattle.std.proofs.lemmas.List.{get_or_default}
 use Rattle.std.proofs.lemmas.Option.{get_or_from_slice_get, same_Some, slice_get_within}
 use Rattle.std.specs.Ordering.{ordering_reverse}
 use Rattle.rs_octets.specs.Prefixes.{Prefix, prefix_order}
@@ -15,7 +13,7 @@ use Rattle.rs_adjin.proofs.Listed.{prefixes_total, exact_prefixes}
 use Rattle.rs_adjin.proofs.TableRows.{some_row}
 use Rattle.rs_outlet.specs.declared.waiting.Wait.{Wait}
 use Rattle.rs_outlet.specs.Pending.Slots.{AreApart, prefixes_at, rising}
-use Rattle.rs_outlet.specs.Pending.Choosing.{IsLeast, IsLesser, NoneBefore, passing}
+use Rattle.rs_outlet.specs.Pending.Choosing.{IsLeast, IsLesser, passing}
 use Rattle.rs_outlet.proofs.Decided.LocByNumber.{same, same_is, same_itself}
 use Rattle.rs_outlet.proofs.Message.Fullest.{passing_none, passing_one}
 use Rattle.rs_outlet.proofs.Pending.Apart.{unique}

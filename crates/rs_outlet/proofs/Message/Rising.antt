@@ -1,8 +1,8 @@
 -- The prefixes of a message rise, and the first of them is the least that waits for the like.
-use Rattle.std.proofs.Common.{◌≡◌, ◌≢◌, ◌<◌, ◌≤◌, ℕ, zero, suc, Bool, true, false, cond, not, ◌&&◌, Option, None, Some, List, [], ◌∷◌, length, take, get_or, refl, sym, ap, ◌∙◌, subst, arith, inl, inr}
+use Rattle.std.proofs.Common.{◌≡◌, ◌≢◌, ◌<◌, ℕ, zero, suc, Bool, true, false, not, ◌&&◌, Option, None, Some, List, [], ◌∷◌, length, take, get_or, refl, sym, ap, ◌∙◌, subst, arith, inl, inr}
 use Rattle.std.specs.Prelude.{is_none, option_map, slice_get}
 use Rattle.std.specs.Arc.{arc_value}
-use Rattle.std.specs.List.{AllByRecursion, AllWithin}
+use Rattle.std.specs.List.{AllByRecursion}
 use Rattle.std.specs.List.Sorted.{IsStrictlySortedBy}
 use Rattle.std.specs.Ordering.{ordering_reverse}
 use Rattle.std.specs.declared.cmp.Ordering.{Ordering}
@@ -23,7 +23,6 @@ use Rattle.rs_outlet.specs.Message.Next.{has_attributes}
 use Rattle.rs_outlet.specs.Pending.Choosing.{AnyPasses, IsFirst, IsLeast, IsLeastOf, NoneBefore, NoneWithdrawn, WaitsFor, is_said, passing, shares}
 use Rattle.rs_outlet.specs.Pending.Slots.{AreApart, is_announced, is_withdrawal, is_withdrawn, open_at, rising}
 use Rattle.rs_outlet.proofs.Decided.LocByNumber.{same, same_is, same_itself}
-use Rattle.rs_outlet.proofs.Message.Chosen.{element}
 use Rattle.rs_outlet.proofs.Pending.Apart.{stands_somewhere}
 use Rattle.rs_outlet.proofs.Pending.InOrder.{above_head, in_cases, in_here, in_order_from, in_order_in, is_in, never_less, not_both, passing_up, rising_up}
 

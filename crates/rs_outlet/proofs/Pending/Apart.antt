@@ -1,5 +1,5 @@
 -- Slots of which no two wait for one prefix: what stands of a prefix, and what a written slot and another order leave of that.
-use Rattle.std.proofs.Common.{◌≡◌, ◌+◌, ◌<◌, ◌≤◌, ℕ, zero, suc, Bool, true, false, cond, ◌&&◌, Option, None, Some, List, [], ◌∷◌, ◌++◌, length, slice_set, refl, sym, ap, ◌∙◌, subst, arith}
+use Rattle.std.proofs.Common.{◌≡◌, ◌+◌, ◌<◌, ◌≤◌, ℕ, zero, suc, Bool, true, false, cond, ◌&&◌, Option, None, Some, List, [], ◌∷◌, length, slice_set, refl, sym, ap, ◌∙◌, arith}
 use Rattle.std.specs.Prelude.{count_by, slice_get}
 use Rattle.std.proofs.Math.Bool.{and-false}
 use Rattle.std.specs.List.{AllByRecursion, IsDistinct}
@@ -13,7 +13,7 @@ use Rattle.rs_outlet.specs.declared.waiting.Wait.{Wait}
 use Rattle.rs_outlet.specs.Pending.Slots.{AreApart, open_at, prefixes_at, still_open, waits_there}
 use Rattle.rs_outlet.proofs.Decided.LocByNumber.{same, same_is, same_itself}
 use Rattle.rs_outlet.proofs.Pending.Adding.{Stands, all_moved, found_in}
-use Rattle.rs_outlet.proofs.Pending.Slots.{first_open, flips, later_at, later_set, shut_at}
+use Rattle.rs_outlet.proofs.Pending.Slots.{first_open, later_at, later_set, shut_at}
 use Rattle.rs_outlet.proofs.Pending.Withdrawals.{one_if}
 
 -- ---- how many wait for a prefix

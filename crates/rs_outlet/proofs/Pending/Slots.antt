@@ -43,10 +43,6 @@ pub no_part : IsStrictlySortedBy prefix_order []
 unfolding IsStrictlySortedBy
 no_part = tt
 
-pub none_distinct : (ws : List Wait) → ws ≡ [] → IsDistinct same (prefixes_at ws)
-unfolding IsDistinct
-none_distinct ws h = subst (λ ws. IsDistinct same (prefixes_at ws)) (sym h) tt
-
 -- ---- one slot written
 
 pub same_prefixes : (ws : List Wait) (n : ℕ) (y d : Wait) → y.prefix ≡ (get_or ws n d).prefix → prefixes_at (slice_set ws n y) ≡ prefixes_at ws
@@ -121,42 +117,11 @@ none_apart p q (w ∷ ws) h is = later_at q w ws (another p q w.prefix h.0 is) �
 shut_apart : (x : Wait) (p q : Prefix) → same x.prefix p ≡ false → same q p ≡ true → (x.open && same q x.prefix) ≡ false
 shut_apart x p q h is = ap (λ b. x.open && b) (another p q x.prefix (flips p x.prefix ∙ h) is) ∙ and-false x.open
 
--- the first slot shut
-first_shut : (q : Prefix) (x : Wait) (ws : List Wait) (b : Bool) → same q x.prefix ≡ b → (b ≡ true → open_at q ws ≡ None) → open_at q ws ≡ cond b None (cond (x.open && b) (Some x) (open_at q ws))
-first_shut q x ws true is none = none refl
-first_shut q x ws false is none = sym (ap (λ b. cond b (Some x) (open_at q ws)) (and-false x.open))
-
 -- another slot written
 pub later_set : {A : Type 0} (a b : Bool) (x r o : Option A) → (b ≡ true → a ≡ false) → cond a x (cond b r o) ≡ cond b r (cond a x o)
 later_set true true x r o apart = absurd (true≢false (apart refl))
 later_set false true x r o apart = refl
 later_set a false x r o apart = refl
-
-pub closed_at : (ws : List Wait) (n : ℕ) (p : Prefix) (y : Wait) → IsDistinct same (prefixes_at ws) → slice_get (prefixes_at ws) n ≡ Some p → y.open ≡ false → (q : Prefix) → open_at q (slice_set ws n y) ≡ cond (same q p) None (open_at q ws)
-unfolding IsDistinct
-closed_at [] zero p y apart is shut q = absurd (cc)
-closed_at [] (suc n) p y apart is shut q = absurd (cc)
-closed_at (x ∷ ws) zero p y apart is shut q =
-    ap (λ b. cond (b && same q y.prefix) (Some y) (open_at q ws)) shut
-    ∙ first_shut q x ws (same q x.prefix) refl (none_apart x.prefix q ws apart.0)
-    ∙ ap (λ r. cond (same q r) None (open_at q (x ∷ ws))) (same_Some x.prefix p is)
-closed_at (x ∷ ws) (suc n) p y apart is shut q =
-    ap (cond (x.open && same q x.prefix) (Some x)) (closed_at ws n p y apart.1 is shut q)
-    ∙ later_set (x.open && same q x.prefix) (same q p) (Some x) None (open_at q ws) (shut_apart x p q (apart_at x.prefix p (prefixes_at ws) n apart.0 is))
-
-pub opened_at : (ws : List Wait) (n : ℕ) (y : Wait) → IsDistinct same (prefixes_at ws) → slice_get (prefixes_at ws) n ≡ Some y.prefix → y.open ≡ true → (q : Prefix) → open_at q (slice_set ws n y) ≡ cond (same q y.prefix) (Some y) (open_at q ws)
-unfolding IsDistinct
-opened_at [] zero y apart is opened q = absurd (cc)
-opened_at [] (suc n) y apart is opened q = absurd (cc)
-opened_at (x ∷ ws) zero y apart is opened q =
-    ap (λ b. cond (b && same q y.prefix) (Some y) (open_at q ws)) opened
-    ∙ elim (same q y.prefix) as (λ b. same q y.prefix ≡ b → cond b (Some y) (open_at q ws) ≡ cond b (Some y) (open_at q (x ∷ ws))) [
-      | true ↦ λ _. refl
-      | false ↦ λ f. sym (later_at q x ws (ap (same q) (same_Some x.prefix y.prefix is) ∙ f))
-    ] refl
-opened_at (x ∷ ws) (suc n) y apart is opened q =
-    ap (cond (x.open && same q x.prefix) (Some x)) (opened_at ws n y apart.1 is opened q)
-    ∙ later_set (x.open && same q x.prefix) (same q y.prefix) (Some x) (Some y) (open_at q ws) (shut_apart x y.prefix q (apart_at x.prefix y.prefix (prefixes_at ws) n apart.0 is))
 
 -- ---- a slot read
 

@@ -1,6 +1,6 @@
 -- The slots that the next UPDATE is about.
-use Rattle.std.specs.Prelude.{◌≡◌, ◌≢◌, ◌⊎◌, ℕ, ◌≤◌, ◌<◌, Bool, ◌&&◌, true, false, Option, None, Some, List, [], ◌∷◌, ◌++◌, length, option_map, take, slice_get, vec_len, Vec}
-use Rattle.std.specs.List.{AllByRecursion, AllWithin, filter}
+use Rattle.std.specs.Prelude.{◌≡◌, ◌≢◌, ◌⊎◌, ℕ, ◌≤◌, ◌<◌, Bool, ◌&&◌, true, false, Option, None, Some, List, [], ◌∷◌, length, option_map, take, slice_get, vec_len, Vec}
+use Rattle.std.specs.List.{AllWithin, filter}
 use Rattle.std.specs.Global.{Global}
 use Rattle.std.specs.Vec.{vec_capacity}
 use Rattle.std.specs.Arc.{arc_value}

@@ -1,4 +1,4 @@
-use Rattle.std.proofs.Common.{◌≡◌, ◌∙◌, ◌<◌, ◌≤◌, List, Some, length, take, inr, ap, arith, rules, subst, sym}
+use Rattle.std.proofs.Common.{◌∙◌, ◌<◌, ◌≤◌, List, Some, length, take, inr, ap, arith, rules, subst, sym}
 use Rattle.rs_octets.specs.Prefixes.{Prefix}
 use Rattle.rs_packer.specs.Packed.{IsLongestFront, announcement}
 use Rattle.rs_outlet.specs.Pending.Slots.{rising}

@@ -1,12 +1,12 @@
-use Rattle.std.proofs.Common.{◌≡◌, ◌∙◌, None, Some, List, Option, length, ap, arith, inl, refl, subst, sym}
+use Rattle.std.proofs.Common.{◌≡◌, ◌∙◌, None, Some, List, length, ap, arith, inl, refl, subst, sym}
 use Rattle.std.specs.Option.{option_copied}
-use Rattle.std.specs.Prelude.{option_map, slice_get}
+use Rattle.std.specs.Prelude.{option_map}
 use Rattle.std.proofs.lemmas.Option.{slice_get_within}
 use Rattle.std.specs.Arc.{arc_value}
 use Rattle.std.specs.List.{HoldsAt}
 use Rattle.rs_outlet.specs.declared.rows.Row.{Row}
 use Rattle.rs_outlet.specs.declared.waiting.Wait.{Wait}
-use Rattle.rs_outlet.specs.Pending.Choosing.{AnyPasses, IsLeast, IsLeastOf, NoneWithdrawn, WaitsFor}
+use Rattle.rs_outlet.specs.Pending.Choosing.{IsLeast, IsLeastOf, NoneWithdrawn, WaitsFor}
 use Rattle.rs_outlet.specs.Inside.{row_by}
 use Rattle.rs_outlet.specs.Pending.Slots.{is_announced, is_withdrawn}
 use Rattle.rs_outlet.proofs.Message.Chosen.{first_row, first_waits, nothing_waits}

@@ -1,4 +1,4 @@
-use Rattle.std.proofs.Common.{◌≡◌, ◌∙◌, List, ap, arith, cond, drop, false, subst, sym, take}
+use Rattle.std.proofs.Common.{◌≡◌, ◌∙◌, List, arith, cond, drop, false, subst, sym, take}
 use Rattle.std.specs.List.{AllWithin}
 use Rattle.std.proofs.lemmas.List.{length-map}
 use Rattle.std.proofs.lemmas.List.Sorted.{length_permutation, sum_by-IsPermutation}

@@ -1,4 +1,4 @@
-use Rattle.std.proofs.Common.{◌≡◌, ◌∙◌, drop, false, inr, length, Some, refl, sym, subst, take, ap, rules}
+use Rattle.std.proofs.Common.{◌≡◌, ◌∙◌, drop, inr, length, Some, refl, sym, subst, take, ap, rules}
 use Rattle.std.specs.Prelude.{slice_get}
 use Rattle.std.proofs.lemmas.Option.{get_or_from_slice_get, slice_get_read}
 use Rattle.std.specs.List.Sorted.{IsStrictlySortedBy}

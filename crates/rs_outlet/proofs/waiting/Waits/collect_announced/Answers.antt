@@ -1,4 +1,4 @@
-use Rattle.std.proofs.Common.{◌≡◌, ◌∙◌, ◌<◌, ◌≤◌, ◌++◌, ◌∷◌, [], Option, Some, List, ap, arith, inl, inr, length, refl, true, subst, sym, vec_len}
+use Rattle.std.proofs.Common.{◌≡◌, ◌∙◌, ◌<◌, ◌++◌, ◌∷◌, [], Option, Some, List, arith, inl, inr, refl, true, subst, sym, vec_len}
 use Rattle.std.proofs.lemmas.Bool.{and_parts}
 use Rattle.rs_attrs.specs.Meaning.{Attribute}
 use Rattle.rs_outlet.specs.declared.rows.Row.{Row}

@@ -1,4 +1,4 @@
-use Rattle.std.proofs.Common.{◌≡◌, ◌∙◌, ◌<◌, ◌≤◌, ◌++◌, ◌∷◌, [], None, ap, arith, inl, inr, length, refl, true, subst, sym, vec_len}
+use Rattle.std.proofs.Common.{◌≡◌, ◌∙◌, ◌<◌, ◌++◌, ◌∷◌, [], None, arith, inl, inr, refl, true, subst, sym, vec_len}
 use Rattle.std.proofs.lemmas.Bool.{and_parts}
 use Rattle.rs_outlet.specs.declared.waiting.Wait.{Wait}
 use Rattle.rs_outlet.specs.Pending.Slots.{is_withdrawal, is_withdrawn}

@@ -1,5 +1,5 @@
 use Rattle.std.proofs.Common.{take}
-use Rattle.rs_outlet.proofs.Pending.Chains.{by_hash_chained, none_by_hash, none_chained}
+use Rattle.rs_outlet.proofs.Pending.Chains.{by_hash_chained, none_chained}
 use Rattle.rs_outlet.proofs.waiting.Waits.drop_exact_chains.Goals as goal
 
 pub returns-then-self-clause-chained : goal.returns-then-self-clause-chained

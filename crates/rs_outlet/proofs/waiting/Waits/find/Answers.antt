@@ -1,10 +1,9 @@
-use Rattle.std.proofs.Common.{◌≡◌, ◌∙◌, ◌-◌, List, None, ap, arith, drop, length, subst, sym, take}
+use Rattle.std.proofs.Common.{◌∙◌, ◌-◌, List, ap, arith, drop, length, subst, sym, take}
 use Rattle.std.specs.List.Sorted.{IsStrictlySortedBy}
 use Rattle.std.proofs.lemmas.List.{length-map}
 use Rattle.rs_octets.specs.Prefixes.{prefix_order}
 use Rattle.rs_outlet.specs.declared.waiting.Wait.{Wait}
 use Rattle.rs_outlet.specs.Pending.Slots.{IsOpenSlot, open_at, prefixes_at}
-use Rattle.rs_outlet.specs.Pending.Parts.{AreParts}
 use Rattle.rs_outlet.proofs.Pending.TwoParts.{first_part, late_part, slot_first, slot_late, slot_nowhere}
 use Rattle.rs_outlet.proofs.waiting.Waits.find.Goals as goal
 

@@ -1,6 +1,4 @@
-use Rattle.std.proofs.Common.{◌≡◌, ◌≢◌, ◌<◌, ◌∙◌, Some, length, refl, rules, sym, ap, arith}
-use Rattle.std.specs.Prelude.{slice_get}
-use Rattle.std.specs.declared.cmp.Ordering.{Ordering}
+use Rattle.std.proofs.Common.{◌≡◌, ◌∙◌, length, refl, rules, sym}
 use Rattle.std.specs.declared.cmp.Ordering.TheVariants.{Less, Equal, Greater}
 use Rattle.std.proofs.lemmas.Option.{slice_get_read}
 use Rattle.rs_outlet.proofs.Message.Collected.{lesser_first, lesser_late}
