@@ -176,7 +176,8 @@ fn put_news(
 {
     let room = most_prefixes(speech.limit);
     let passed = waits.collect_announced(rows, attrs, room, chosen, front);
-    waits.note_passed(passed);
+    waits.note_passed(passed.0);
+    waits.note_walked(passed.1);
     // for the prover: they are legal
     attributes_are_legal(attrs);
     put_announcement(attrs, speech, front, out)

@@ -75,6 +75,8 @@ pub(crate) struct Waits {
     pub(crate) order: Vec<Hashed>,
     /// Slots of one hash are chained by their attributes too.
     pub(crate) exact: bool,
+    /// How many slots messages went through slot by slot since the first part was made.
+    pub(crate) walked: usize,
     /// No slot of the first part before it is to be withdrawn.
     pub(crate) gone: usize,
     /// No slot of the first part before it is to be announced.
@@ -107,6 +109,7 @@ impl Waits {
             chains: Vec::new(alloc),
             order: Vec::new(alloc),
             exact: false,
+            walked: 0,
             gone: 0,
             news: 0,
             waiting: 0,

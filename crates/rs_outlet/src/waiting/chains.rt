@@ -245,6 +245,9 @@ fn chain_in_order(
     }
 }
 
+/// Messages go so many times over what waits, slot by slot, till the parts are made one and chained anew.
+const WALKS: usize = 8;
+
 /// A message that passed over more slots of its hash than these was put among attributes that share it.
 const MANY_OF_ONE_HASH: usize = 64;
 
@@ -278,6 +281,21 @@ impl Waits {
         }
         self.exact = true;
         self.chains.clear();
+    }
+
+    /// A message went through so many slots of the first part. Attributes that a turn added to the late part
+    /// have no chain there: where messages went over many slots for such, the next one finds one part.
+    pub(crate) fn note_walked(&mut self, walked: usize)
+        ensures slots { self.new.slots.items ≡ self.old.slots.items }
+        ensures sorted { self.new.sorted ≡ self.old.sorted }
+        ensures chains { self.new.chains.items ≡ self.old.chains.items }
+        ensures capacity { vec_capacity self.new.slots ≡ vec_capacity self.old.slots }
+    {
+        self.walked = self.walked.saturating_add(walked);
+        if self.slots.len().saturating_mul(WALKS) < self.walked {
+            self.walked = 0;
+            self.ready = false;
+        }
     }
 
     /// The next slot of the first part that may have the attributes of a message, of which this is the hash,

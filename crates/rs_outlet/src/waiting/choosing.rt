@@ -130,7 +130,8 @@ impl Waits {
     }
 
     /// Lists the prefixes that wait for these attributes, from the least on, as many as there is room for.
-    /// Answers how many slots of their hash it passed over.
+    /// Answers how many slots of their hash it passed over, and how many of the first part it went through
+    /// that don't wait for them.
     pub(crate) fn collect_announced(
         &self,
         rows: &Rows,
@@ -138,7 +139,7 @@ impl Waits {
         room: usize,
         chosen: &mut Vec<usize>,
         front: &mut Vec<Prefix>,
-    ) -> usize
+    ) -> (usize, usize)
         ensures chosen { vec_capacity chosen.new ≡ vec_capacity chosen.old }
         ensures front { vec_capacity front.new ≡ vec_capacity front.old }
         ensures are { AreChosen rows.now.rows.items self.now.slots.items (Some attrs.now) chosen.old.items front.old.items → AreChosen rows.now.rows.items self.now.slots.items (Some attrs.now) chosen.new.items front.new.items }
@@ -148,22 +149,24 @@ impl Waits {
         let mut first = self.news;
         let mut late = self.sorted;
         let mut passed: usize = 0;
+        let mut walked: usize = 0;
         for _ in 0..self.slots.len() {
             if room <= front.len() {
-                return passed;
+                return (passed, walked);
             }
             let Some(slot) = self.lesser(first, late) else {
-                return passed;
+                return (passed, walked);
             };
             let listed = self.list_announced(rows, slot, attrs, chosen, front);
             if slot < self.sorted {
                 passed = passed.saturating_add(usize::from(self.is_passed(slot, hash, listed)));
+                walked = walked.saturating_add(usize::from(!listed));
                 first = self.next_slot(slot, hash, listed);
             } else {
                 late = slot + 1;
             }
         }
-        passed
+        (passed, walked)
     }
 
     /// Lists the prefix of a slot, if it waits for these attributes. Answers whether it does.

@@ -134,6 +134,7 @@ impl Waits {
         self.ready = false;
         self.chains.clear();
         self.exact = self.exact && !self.slots.is_empty();
+        self.walked = 0;
         self.gone = 0;
         self.news = 0;
     }
