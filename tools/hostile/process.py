@@ -301,27 +301,29 @@ def losses(text):
     return found
 
 
-def ended_sessions(place, at, times):
-    """A member comes up and closes so many times."""
-    done = 0
-    while done < times:
-        it = Member(place, at)
-        speak([it], 3, lambda: it.is_up or it.ended)
-        done += it.is_up
-        it.close(at_once=True)
-        time.sleep(0.02)
+def ended_sessions(place, ats, times):
+    """Members come up and close, all at once, so many times."""
+    for _ in range(times):
+        left = ats
+        while left:
+            them = [Member(place, at) for at in left]
+            speak(them, 5, lambda: all(it.is_up or it.ended for it in them))
+            left = [it.at for it in them if not it.is_up]
+            for it in them:
+                it.close(at_once=True)
+            time.sleep(0.02)
 
 
 def lines(target, members, times, routes, more):
     """Sessions end faster than a line a second, then for want of memory: whether each loss is told."""
     with Exchange(target, 64) as exchange:
-        for at in range(2, 2 + members):
-            ended_sessions(exchange.place, at, times)
-        time.sleep(3)
+        ats = range(2, 2 + members)
+        ended_sessions(exchange.place, ats, times)
+        time.sleep(5)
         told = losses(exchange.text())
-        missing = {f"c{at}": times - told[f"c{at}", "lost"] - told[f"c{at}", "close"] for at in range(2, 2 + members)}
+        missing = {f"c{at}": times - told[f"c{at}", "lost"] - told[f"c{at}", "close"] for at in ats}
         limit_memory(exchange, more)
-        them = come_up([Member(exchange.place, at) for at in range(20, 23)])
+        them = come_up([Member(exchange.place, at) for at in range(30, 33)])
         for it in them:
             it.out += announced(it.at, it.at * routes, routes, 3)
         speak(them, 30, lambda: all(it.ended for it in them))

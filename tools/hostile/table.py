@@ -195,7 +195,7 @@ ROWS = (
     ),
     Row(
         "p", "Sessions end faster than a line a second, then for want of memory", "each loss is told, if only by its count", OURS, process.lines,
-        dict(members=5, times=40, routes=150_000, more=8), None, 200, losses_are_told,
+        dict(members=20, times=10, routes=150_000, more=8), None, 200, losses_are_told,
     ),
     Row(
         "q", "SIGHUP, SIGUSR1", "OPERATING warns, the unit sends none, `nohup` keeps it", OURS, process.signals, {}, None, 60, signals_are_told,

@@ -8,6 +8,9 @@ import time
 
 from peers.members import Member, differs, ends, free_ports, routes, serving
 
+# After so many sessions a restless member has shown enough.
+SESSIONS = 6
+
 
 def comes_and_goes(server, source):
     """Connects, waits for what the server does, and closes: whether the connection began a session."""
@@ -23,19 +26,23 @@ def counted(lines, words):
 
 
 def a_restless_member(program, until):
-    """A member and a stranger that connect and close at once, over and over: few lines, and all are counted."""
+    """A member and a stranger that connect and close at once, over and over: few lines, all are counted, and the member rests."""
     port = free_ports(1)[0]
-    with serving(program, [("alpha", 64496, port, "127.0.0.1")], 300) as server:
+    with serving(program, [("alpha", 64496, port, "127.0.0.1")], SESSIONS) as server:
         start, begun, refused = time.monotonic(), 0, 0
-        while begun < 300 and time.monotonic() < until:
+        while begun < SESSIONS and time.monotonic() < until:
             began = comes_and_goes(("127.0.0.1", port), "127.0.0.1")
             begun, refused = begun + began, refused + (not began)
-            if begun < 300:
+            if begun < SESSIONS:
                 comes_and_goes(("127.0.0.1", port), "127.0.0.2")
+        took = time.monotonic() - start
         if wrong := ends(server, [], until):
             return wrong
         most = time.monotonic() - start + 2
         lines = server.stdout.read().decode().splitlines()
+    # Each but the first two comes after the one before has rested, a second or two.
+    if took < SESSIONS - 2:
+        return f"{begun} sessions began within {took:.1f} seconds"
     kinds = {words: counted(lines, words) for words in ("begin alpha", "busy alpha", "lost alpha", "close alpha", "stranger", "strangers")}
     for words, (count, _) in kinds.items():
         if count > most:
@@ -112,7 +119,7 @@ def no_descriptor_left(program, until):
 
 
 PLAYS = (
-    ("a member and a stranger that come and go 300 times", a_restless_member),
+    ("a member and a stranger that come and go without end", a_restless_member),
     ("two members while strangers connect without end", strangers_without_end),
     ("a server without a descriptor for the second of two members", no_descriptor_left),
 )
