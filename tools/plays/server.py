@@ -10,8 +10,8 @@ nothing; the server's memory must stay below a bound, and the third's session mu
 A server taken out: behind `default = "drop"` in place of its rules two members must be told that all routes are gone, and keep
 their sessions.
 Many members: of 512 in the configuration 200 connect; each announces a route and must be told those of all others.
-A restless member: one member and a stranger connect 300 times, as fast as they can; on standard output there may be no more
-than a line of each kind in a second, and the numbers behind them must count all.
+A restless member: one member and a stranger connect as fast as they can; the member must rest between its sessions, and on
+standard output there may be no more than a line of each kind in a second, and the numbers behind them must count all.
 Strangers without end: two members announce 1,000 routes each, while strangers connect to the port of one of them as fast as
 they can; each member must be told the other's routes all the same.
 No descriptor left: the server may open one connection and no more; it must go on, and the second member must come up once
