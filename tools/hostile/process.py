@@ -296,7 +296,7 @@ def starved(target, clients, most):
 def losses(text):
     """How many losses the lines on standard output name, by client and kind."""
     found = collections.Counter()
-    for kind, name, many in re.findall(r"^(lost|close|memory) (c\d+)\b(?:\D+(\d+))?$", text, re.MULTILINE):
+    for kind, name, many in re.findall(r"^(lost|close|memory) (c\d+)\b(?:[^\d\n]+(\d+))?$", text, re.MULTILINE):
         found[name, kind] += int(many or 1)
     return found
 
