@@ -11,6 +11,7 @@ pub mod TwoParts
 pub mod PutAmong
 pub mod MarkedAgain
 pub mod MarkedAll
+pub mod Reopened
 pub mod Owing
 pub mod Carrying
 pub mod Backing

@@ -11,7 +11,7 @@ use std::alloc::{AllocError, Global};
 use std::sync::Arc;
 
 /// A route that is due, beside its prefix.
-#[derive(Debug, Drop)]
+#[derive(Drop)]
 pub(crate) struct Row {
     pub(crate) prefix: Prefix,
     pub(crate) attrs: Arc<Attrs>,

@@ -31,7 +31,7 @@ use std::alloc::{AllocError, Global};
 use std::sync::Arc;
 
 /// What the client was told of a prefix that waits.
-#[derive(Debug, Drop)]
+#[derive(Drop)]
 pub(crate) enum Told {
     Nothing,
     /// Just what is due: it asked for that again.
@@ -41,14 +41,14 @@ pub(crate) enum Told {
 
 /// What is due at a prefix that waits: the number of its row and the hash of its attributes. Or it is
 /// to be withdrawn.
-#[derive(Clone, Copy, Debug)]
+#[derive(Clone, Copy)]
 pub(crate) enum Due {
     Withdrawn,
     Announced { number: u32, hash: u32 },
 }
 
 /// A prefix that waits.
-#[derive(Debug, Drop)]
+#[derive(Drop)]
 pub(crate) struct Wait {
     pub(crate) prefix: Prefix,
     pub(crate) due: Due,

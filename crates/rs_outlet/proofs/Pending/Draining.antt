@@ -1,7 +1,8 @@
 -- Where nothing waits, what was told is what is due, and nothing is marked; and the other way round where what waits is exact.
-use Rattle.std.proofs.Common.{◌≡◌, ◌+◌, ℕ, Bool, true, false, cond, ◌&&◌, Option, Some, None, List, [], ◌∷◌, refl, sym, ap, ◌∙◌, arith}
-use Rattle.std.specs.Prelude.{option_map}
+use Rattle.std.proofs.Common.{◌≡◌, ◌+◌, ℕ, zero, suc, Bool, true, false, cond, ◌&&◌, Option, Some, None, List, [], ◌∷◌, refl, sym, ap, ◌∙◌, arith}
+use Rattle.std.specs.Prelude.{slice_get, option_map}
 use Rattle.std.proofs.lemmas.List.Sums.{sum_by-cons}
+use Rattle.std.proofs.lemmas.Option.{same_Some}
 use Rattle.std.specs.FinMap as fin
 use Rattle.std.specs.FinSet as set
 use Rattle.rs_outlet.specs.declared.waiting.Wait.{Wait}
@@ -28,6 +29,13 @@ first_shut w ws h = go w.open refl
     go false is =
         let none : ◌≡◌ {A = ℕ} (cond w.open 1 0) 0 = ap (λ b. cond b 1 0) is in
         (is, omega (arith, h, more, none))
+
+-- where none waits, no slot does
+pub all_shut : (ws : List Wait) → open_count ws ≡ 0 → (m : ℕ) (z : Wait) → slice_get ws m ≡ Some z → z.open ≡ false
+all_shut [] none zero z at = absurd (cc)
+all_shut [] none (suc m) z at = absurd (cc)
+all_shut (w ∷ ws) none zero z at = sym (ap (λ (v : Wait). v.open) (same_Some w z at)) ∙ (first_shut w ws none).0
+all_shut (w ∷ ws) none (suc m) z at = all_shut ws (first_shut w ws none).1 m z at
 
 pub told_drained : (loc : Table) (ws : List Wait) → open_count ws ≡ 0 → told_over loc ws ≡ loc
 told_drained loc [] h = refl

@@ -56,7 +56,7 @@ at_slot P q z (w ∷ zs) h is =
       | false ↦ λ _ e. at_slot P q z zs h.1 e
     ] refl is
 
-open_remarked : (q : Prefix) (ws : List Wait) → open_at q (map remarked ws) ≡ option_map remarked (open_at q ws)
+pub open_remarked : (q : Prefix) (ws : List Wait) → open_at q (map remarked ws) ≡ option_map remarked (open_at q ws)
 open_remarked q [] = refl
 open_remarked q (w ∷ ws) =
     elim (w.open && same q w.prefix) as (λ b. cond b (Some (remarked w)) (open_at q (map remarked ws)) ≡ option_map remarked (cond b (Some w) (open_at q ws))) [
@@ -64,11 +64,11 @@ open_remarked q (w ∷ ws) =
       | false ↦ open_remarked q ws
     ]
 
-none_remarked : (o : Option Wait) → option_map remarked o ≡ None → o ≡ None
+pub none_remarked : (o : Option Wait) → option_map remarked o ≡ None → o ≡ None
 none_remarked None h = refl
 none_remarked (Some w) h = absurd (cc)
 
-prefixes_remarked : (ws : List Wait) → prefixes_at (map remarked ws) ≡ prefixes_at ws
+pub prefixes_remarked : (ws : List Wait) → prefixes_at (map remarked ws) ≡ prefixes_at ws
 prefixes_remarked [] = refl
 prefixes_remarked (w ∷ ws) = ap (λ ps. w.prefix ∷ ps) (prefixes_remarked ws)
 
@@ -144,7 +144,7 @@ backed_first rows ws up backed =
 
 -- ---- a row
 
-row_due : (rows : List (Option Row)) (n : ℕ) (r : Row) → row_at rows n ≡ Some r → IsSome (fin.get (loc_of rows) r.prefix)
+pub row_due : (rows : List (Option Row)) (n : ℕ) (r : Row) → row_at rows n ≡ Some r → IsSome (fin.get (loc_of rows) r.prefix)
 row_due [] n r is = absurd (cc)
 row_due (None ∷ rows) zero r is = absurd (cc)
 row_due (None ∷ rows) (suc n) r is = row_due rows n r is

@@ -132,7 +132,7 @@ withdrawn_still (w ∷ ws) =
 pub still_opened : (ws : List Wait) → IsStrictlySortedBy prefix_order (prefixes_at ws) → AllByRecursion (λ w. w.open ≡ true) (map remarked (still_open ws))
 still_opened ws up = all_mapped remarked _ (λ w. w.open ≡ true) (λ w h. h.0) (still_open ws) (still_stand ws up)
 
-row_within : (rows : List (Option Row)) (n : ℕ) (r : Row) → row_at rows n ≡ Some r → n < length rows
+pub row_within : (rows : List (Option Row)) (n : ℕ) (r : Row) → row_at rows n ≡ Some r → n < length rows
 row_within [] n r is = absurd (cc)
 row_within (x ∷ rows) zero r is = omega arith
 row_within (x ∷ rows) (suc n) r is = omega (arith, row_within rows n r is)
@@ -171,7 +171,7 @@ fresh_more base rows k o b below at is =
     sum_by-drop_more (λ r. one_if (is_fresh base r)) rows k None below
     ∙ ap (λ c. one_if c + fresh_count base (drop (k + 1) rows)) (ap (is_fresh base) (row_get rows k below ∙ at) ∙ is)
 
-at_last : (n k : ℕ) → n < k + 1 → n ≢ k → n < k
+pub at_last : (n k : ℕ) → n < k + 1 → n ≢ k → n < k
 at_last n k below ne = grind (arith)
 
 pub none_more_listed : (rows : List (Option Row)) (base : List Wait) (k capacity : ℕ) (xs : List Wait) → k < length rows → row_at rows k ≡ None → AreListed rows base k capacity xs → AreListed rows base (k + 1) capacity xs

@@ -30,7 +30,7 @@ use std::sync::Arc;
 const END: u32 = 0xffff_ffff;
 
 /// A slot that is to be announced, and the hash of its attributes.
-#[derive(Clone, Copy, Debug)]
+#[derive(Clone, Copy)]
 pub(crate) struct Hashed {
     pub(crate) hash: u32,
     pub(crate) slot: u32,

@@ -29,6 +29,9 @@ impl Waits {
         ensures capacity { vec_capacity self.new.slots ≡ vec_capacity self.old.slots }
         ensures first { IsLeast is_withdrawn self.old.slots.items result }
     {
+        if self.waiting == 0 {
+            return None;
+        }
         self.gone = next_withdrawn(&self.slots[..self.sorted], self.gone);
         let late = next_withdrawn(&self.slots, self.sorted);
         self.lesser(self.gone, late)
@@ -42,6 +45,9 @@ impl Waits {
         ensures capacity { vec_capacity self.new.slots ≡ vec_capacity self.old.slots }
         ensures first { IsLeast is_announced self.old.slots.items result }
     {
+        if self.waiting == 0 {
+            return None;
+        }
         self.news = next_announced(&self.slots[..self.sorted], self.news);
         let late = next_announced(&self.slots, self.sorted);
         self.lesser(self.news, late)
