@@ -232,6 +232,20 @@ fn all_is_told_again(rt: HostRuntime) {
     let_go(exchange, outlet);
 }
 
+#[test]
+fn all_is_told_again_to_one_who_took_a_part(rt: HostRuntime) {
+    let exchange = Exchange::with_routes(&rt, rt.alloc(), 3_000);
+    let mut outlet = exchange.outlet(&rt, CLIENT);
+    exchange.decides(&rt, &mut outlet, all(3_000));
+    let first = drain(&rt, exchange.alloc, &mut outlet);
+    outlet.again();
+    outlet.begin();
+    let part = outlet.lent().len();
+    outlet.took(part);
+    tells_again(&rt, &exchange, &mut outlet, &first);
+    let_go(exchange, outlet);
+}
+
 /// The bits of the first ten prefixes that an outlet has a route for.
 fn bits(rt: &impl Abort, exchange: &Exchange, outlet: &Outlet) -> Vec<u32> {
     let mut bits = Vec::new(exchange.alloc);

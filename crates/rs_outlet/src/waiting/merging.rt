@@ -152,11 +152,33 @@ impl Waits {
         if self.sorted == self.slots.len() {
             return;
         }
+        if self.sorted == 0 {
+            self.raise_late();
+            return;
+        }
         self.merge(buffers);
     }
 
-    /// Makes the slots ready for a message: for the first one they are one part, and for the second one the
-    /// first part is chained. It stays so while others are added to the late part. It takes no memory.
+    /// The late part becomes the first one, of which there is none.
+    fn raise_late(&mut self)
+        requires { self.old.sorted ≡ 0 }
+        ensures slots { self.new.slots.items ≡ self.old.slots.items }
+        ensures rises { IsStrictlySortedBy prefix_order (prefixes_at self.new.slots.items) }
+        ensures one { self.new.sorted ≡ vec_len self.new.slots }
+        ensures capacity { vec_capacity self.new.slots ≡ vec_capacity self.old.slots }
+        ensures chains { self.new.chains.items ≡ [] }
+    {
+        self.sorted = self.slots.len();
+        self.ready = false;
+        self.chains.clear();
+        self.walked = 0;
+        self.gone = 0;
+        self.news = 0;
+    }
+
+    /// Makes the slots ready for a message: for the first one they are one part, and for a later one the first part
+    /// is chained, once nothing is to be withdrawn. It stays so while others are added to the late part. It takes no
+    /// memory.
     pub(crate) fn prepare(&mut self, rows: &Rows)
         requires backed { AreBacked rows.now.rows.items self.old.slots.items }
         requires chained { AreChained rows.now.rows.items (take self.old.sorted self.old.slots.items) self.old.chains.items }
@@ -169,7 +191,7 @@ impl Waits {
             self.make_one_part(None);
             self.chains.clear();
             self.ready = true;
-        } else if self.chains.is_empty() {
+        } else if self.chains.is_empty() && self.first_withdrawn().is_none() {
             self.chain(rows);
         }
     }

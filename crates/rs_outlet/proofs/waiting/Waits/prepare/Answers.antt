@@ -5,9 +5,3 @@ use Rattle.rs_outlet.proofs.waiting.Waits.prepare.Goals as goal
 
 pub returns-then-not-self-clause-chained : goal.returns-then-not-self-clause-chained
 returns-then-not-self-clause-chained c = none_chained c.args.rows.now.rows.items (take c.make_one_part.new.self.sorted c.make_one_part.new.self.slots.items) c.clear.new.self.items c.clear.ensures.items
-
-pub returns-then-is_empty-clause-slots : goal.returns-then-is_empty-clause-slots
-returns-then-is_empty-clause-slots c = λ q. ap (open_at q) c.chain.ensures.items
-
-pub returns-then-is_empty-clause-withdrawn : goal.returns-then-is_empty-clause-withdrawn
-returns-then-is_empty-clause-withdrawn c = ap withdrawn_count c.chain.ensures.items
