@@ -2,9 +2,10 @@
 //! asked for again. Each has a slot. The slots stand in two `parts`, each in rising order, so that a turn
 //! does not go over all that waits for a client that takes nothing, or little.
 //!
-//! Before the first message one part is made of both. From the second message on, each slot of the first
-//! part that is to be announced is chained to the next one that may have the same attributes (`chains`). A
-//! message is read off along such a chain and slot by slot in the late part, the lesser prefix first.
+//! Before the first message one part is made of both. From the second message on, once nothing is to be
+//! withdrawn, each slot of the first part that is to be announced is chained to the next one that may have
+//! the same attributes (`chains`). A message is read off along such a chain and slot by slot in the late part,
+//! the lesser prefix first.
 
 ghost use Rattle.std.specs.Prelude.{List, ◌≡◌, ◌≤◌, ◌<◌, ◌+◌, ℕ, Option, None, Some, [], true, false, drop, length, take, vec_len, slice_get, slice_set, option_map, if◌then◌else◌, IfSome, IsTrue, OnOk, ◌++◌};
 ghost use Rattle.std.specs.List.{AllWithin, Contains, IsDistinct, list_any};
