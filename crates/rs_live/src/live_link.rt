@@ -124,8 +124,6 @@ pub struct LiveLink<'a, P> {
     pub(crate) has_heard: bool,
     /// How many octets were read since the last turn.
     pub(crate) octets_heard: usize,
-    /// How often this connection was given room after this turn.
-    pub(crate) rooms: u32,
     /// How many turns there were.
     pub(crate) turns: u64,
     /// All workers turn; and up to which moment they do, however little was heard.
@@ -167,7 +165,6 @@ impl<'a, P: Ports> LiveLink<'a, P> {
             pieces: 0,
             has_heard: false,
             octets_heard: 0,
-            rooms: 0,
             turns: 0,
             is_wide: false,
             wide_to: 0,

@@ -25,10 +25,6 @@ const PIECES: u32 = 16;
 /// three pieces of 4,096 octets, which name some 3,000 prefixes of 24 bits.
 const OCTETS_A_TURN: usize = 8192;
 
-/// How many times more one connection is given room after a turn, where it took all: so nobody who takes much keeps
-/// others from being heard.
-const ROOMS: u32 = 1;
-
 /// From so many octets heard since the last turn on, all workers turn; else one does, for most turns are
 /// short, and to start threads costs more than that saves. `bench/turns.py` measures from where on.
 const MUCH: usize = 4096;
@@ -270,7 +266,6 @@ impl<'a, P: Ports> LiveLink<'a, P> {
         ensures answers { (piece : List ℕ) → AnswersFrom P.asked (Stage.Room from) result piece self.old self.new }
     {
         if let Some(c) = self.next_live(from) {
-            self.rooms = 0;
             self.phase.stage = Stage::Handed(c);
             return Some(Event::Room(c, u64::MAX));
         }
@@ -318,7 +313,7 @@ impl<'a, P: Ports> LiveLink<'a, P> {
         own.live.key()
     }
 
-    /// Writes what a connection was handed; gives it room again where it was full and no longer is.
+    /// Writes what a connection was handed.
     fn handed(&mut self, c: usize) -> Option<Event>
         ensures same_ports { SamePorts self.old self.new }
         ensures answers { (piece : List ℕ) → AnswersFrom P.asked (Stage.Handed c) result piece self.old self.new }
@@ -333,7 +328,8 @@ impl<'a, P: Ports> LiveLink<'a, P> {
         }
     }
 
-    /// A client's connection was written; it is given room again where it was full and no longer is.
+    /// A client's connection was written; where it was full and no longer is, the next round follows at once.
+    /// So nobody who takes much keeps others from being heard.
     fn written(&mut self, c: usize, is_free: bool) -> Option<Event>
         ensures same_ports { SamePorts self.old self.new }
         ensures answers { (piece : List ℕ) → AnswersFrom P.asked (Stage.Room (min (c + 1) usize.MAX)) result piece self.old self.new }
@@ -342,24 +338,8 @@ impl<'a, P: Ports> LiveLink<'a, P> {
             self.lose(c, key);
             return Some(Event::Lost(c));
         }
-        if !is_free {
-            return None;
-        }
-        self.room_again(c)
-    }
-
-    /// Room for a connection once more, unless it had much after this turn.
-    fn room_again(&mut self, c: usize) -> Option<Event>
-        ensures same_ports { SamePorts self.old self.new }
-        ensures answers { (piece : List ℕ) → AnswersFrom P.asked (Stage.Room (min (c + 1) usize.MAX)) result piece self.old self.new }
-    {
-        if self.rooms >= ROOMS {
-            self.has_more = true;
-            return None;
-        }
-        self.rooms = self.rooms.saturating_add(1);
-        self.phase.stage = Stage::Handed(c);
-        Some(Event::Room(c, u64::MAX))
+        self.has_more |= is_free;
+        None
     }
 
     /// Goes on with the connections that are being closed.
