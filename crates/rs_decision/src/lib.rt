@@ -11,7 +11,8 @@
 //! - `losing` tells by which step a rank loses.
 //! - `laws` are contracts of functions that do nothing: the best is unbeaten, and the order of the
 //!   list doesn't matter.
-//! - `tests` have choices worked out by the standard's rules.
+//!
+//! The tests stand in `rs_wire_tests`, in `src/decision.rt`.
 #![tactic(auto)]
 
 mod choice;
@@ -19,8 +20,6 @@ mod exits;
 mod laws;
 mod losing;
 mod rank;
-#[cfg(test)]
-mod tests;
 
 pub use choice::best;
 pub use laws::{best_ignores_order, best_is_unbeaten};

@@ -12,7 +12,8 @@
 //!   crates need, `hold_times` which Hold Times are refused.
 //! - `writes` puts octets into a slice.
 //! - `laws` are contracts of functions that do nothing: octets are cut into messages in one way.
-//! - `tests` and its folder have octets that are taken apart by hand.
+//!
+//! The tests stand in `rs_wire_tests`, in `src/octets.rt`.
 #![tactic(auto)]
 
 mod fronts;
@@ -22,8 +23,6 @@ pub mod laws;
 mod notification;
 mod numbers;
 mod prefix;
-#[cfg(test)]
-mod tests;
 mod writes;
 
 pub use fronts::{Front, read_front};

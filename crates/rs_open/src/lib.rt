@@ -10,7 +10,8 @@
 //! - `short` has the messages that a session says by itself, `shutdown` the text that an operator
 //!   ends one with, `writing` their octets.
 //! - `laws` are contracts of functions that do nothing.
-//! - `tests` and its folder have OPENs of other implementations and of the RFCs, and texts.
+//!
+//! The tests stand in `rs_wire_tests`, in `src/open`.
 #![tactic(auto)]
 
 mod codes;
@@ -20,8 +21,6 @@ mod reading;
 mod refresh;
 mod short;
 mod shutdown;
-#[cfg(test)]
-mod tests;
 mod triples;
 mod writing;
 

@@ -8,15 +8,14 @@
 //! - `fields` writes the fields of prefixes, and answers how many fit.
 //! - `laws` are contracts of functions that do nothing: what is written is one message, and
 //!   denotes just these prefixes with these attributes.
-//! - `tests` have UPDATEs octet for octet, and the numbers at which they are full.
+//!
+//! The tests stand in `rs_wire_tests`, in `src/packer.rt`.
 #![tactic(auto)]
 
 mod announced;
 mod fields;
 pub mod laws;
 mod packed;
-#[cfg(test)]
-mod tests;
 mod withdrawn;
 
 pub use announced::{fits, pack_announced, try_pack_announced};

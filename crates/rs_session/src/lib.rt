@@ -12,9 +12,10 @@
 //! the NOTIFICATIONs that end one, `laws.rt` what the definitions come to; `heard.rt`, `command.rt`,
 //! `act.rt` and `settings.rt` are what goes in, what comes out and what is configured. Contracts see a session as
 //! the list of what befell it (`specs/Items.antt`), and nothing above this crate looks inside one.
-//! `tests.rt` and its folder have sessions by hand.
 //!
 //! No call takes memory, and none fails but `opened`, by `Busy`.
+//!
+//! The tests stand in `rs_wire_tests`, in `src/session`.
 #![tactic(auto)]
 
 mod act;
@@ -25,8 +26,6 @@ pub mod laws;
 mod phase;
 mod session;
 mod settings;
-#[cfg(test)]
-mod tests;
 
 pub use act::{Act, Busy, State};
 pub use command::Command;

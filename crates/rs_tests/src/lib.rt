@@ -4,7 +4,7 @@
 //! A file has the tests of one crate, and its folder those that are many: `adjin` those of `rs_adjin`,
 //! and so on; `route_server` those of `rs_core`. `common` has what several of them need. Nothing but tests
 //! stands here, and they see what any caller sees. A crate that has tests is proved again with them: so
-//! crates that are small have their own, and the others stand without.
+//! crates stand without. Those of the small crates stand in `rs_wire_tests`.
 #![tactic(auto)]
 
 #[cfg(test)]

@@ -8,13 +8,13 @@
 //! - `outcome` has the call, `effect`, and the type of its answer; `prefixes` are the sets of
 //!   prefixes in it, as lists in rising order.
 //! - `laws` are contracts of functions that do nothing.
+//!
+//! The tests stand in `rs_wire_tests`, in `src/update`.
 #![tactic(auto)]
 
 mod fields;
 pub mod laws;
 mod outcome;
 mod prefixes;
-#[cfg(test)]
-mod tests;
 
 pub use outcome::{Outcome, effect};

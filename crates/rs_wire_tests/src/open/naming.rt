@@ -1,11 +1,11 @@
 //! Names and texts.
 
-use super::is;
-use crate::{
+use crate::common::{is, is_shown};
+use rs_octets::Notification;
+use rs_open::{
     Limit, OpenFault, Short, ShutdownText, an_open_is_taken_where_it_is_good,
     an_open_of_ours_is_good, octets_are_one_row_of_triples, short_is_a_message,
 };
-use rs_octets::Notification;
 use std::alloc::Global;
 use std::process::Abort;
 
@@ -57,9 +57,8 @@ fn texts(rt: HostRuntime) {
 }
 
 /// A fault is shown by this text.
-fn is_shown(rt: &impl Abort, alloc: Global, fault: OpenFault, text: &str) {
-    let shown = format!(in alloc; "{fault}").expect(rt, "a text");
-    is(rt, shown.as_str(), text, "a fault's text");
+fn fault_is_shown(rt: &impl Abort, alloc: Global, fault: OpenFault, text: &str) {
+    is_shown(rt, format!(in alloc; "{fault}"), text);
 }
 
 #[test]
@@ -80,7 +79,7 @@ fn shows_faults(rt: HostRuntime) {
         ),
     ];
     for (fault, text) in cases {
-        is_shown(&rt, rt.alloc(), fault, text);
+        fault_is_shown(&rt, rt.alloc(), fault, text);
     }
 }
 

@@ -1,11 +1,11 @@
 //! Messages and their octets.
 
-use super::{is, octets, put};
-use crate::{
+use crate::common::{is, octets, put};
+use rs_octets::Notification;
+use rs_open::{
     ServerOpen, Short, ShutdownText, short_size, write_keepalive, write_note, write_open,
     write_short,
 };
-use rs_octets::Notification;
 use std::alloc::Global;
 use std::process::Abort;
 

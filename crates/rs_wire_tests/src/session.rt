@@ -5,17 +5,12 @@ mod opens;
 mod states;
 mod timers;
 
-use crate::{Act, Busy, Command, Heard, Session, Settings, State};
+use crate::common::is;
 use rs_attrs::Mode;
 use rs_octets::HeaderFault;
 use rs_open::{Limit, Short, ShutdownText, read_open};
-use std::fmt::Debug;
+use rs_session::{Act, Busy, Command, Heard, Session, Settings, State};
 use std::process::Abort;
-
-/// This is found, and this was wanted, of what the text names.
-fn is<T: Debug + PartialEq + Drop>(rt: &impl Abort, found: T, want: T, of: &str) {
-    assert_eq!(rt; found, want, "{of}");
-}
 
 /// A client of AS 64496, and a Hold Time of 90.
 const SETTINGS: Settings = Settings {

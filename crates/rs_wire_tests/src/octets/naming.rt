@@ -1,7 +1,7 @@
 //! Names of error codes and subcodes, and their texts.
 
-use super::{is, is_shown};
-use crate::Notification;
+use crate::common::{is, is_shown};
+use rs_octets::Notification;
 use std::alloc::Global;
 use std::process::Abort;
 

@@ -1,31 +1,11 @@
 //! Messages and their numbers from outside.
 
-use crate::{Packed, fits, pack_announced, pack_withdrawn, try_pack_announced};
-use rs_attrs::{Attrs, Mode, read};
+use crate::common::{ROUTE, attrs, is, prefix, put};
+use rs_attrs::{Attrs, Mode};
 use rs_octets::Prefix;
+use rs_packer::{Packed, fits, pack_announced, pack_withdrawn, try_pack_announced};
 use std::alloc::Global;
-use std::fmt::Debug;
 use std::process::Abort;
-
-/// This is found, and this was wanted, of what the text names.
-fn is<T: Debug + PartialEq + Drop>(rt: &impl Abort, found: T, want: T, of: &str) {
-    assert_eq!(rt; found, want, "{of}");
-}
-
-/// ORIGIN IGP, AS_PATH 64496, NEXT_HOP 192.0.2.11, as a four-octet peer spells them.
-const ROUTE: [u8; 20] = [
-    0x40, 1, 1, 0, 0x40, 2, 6, 2, 1, 0, 0, 0xfb, 0xf0, 0x40, 3, 4, 192, 0, 2, 11,
-];
-
-/// The prefix of this length, 0 to 32, with these bits.
-fn prefix(rt: &impl Abort, bits: u32, len: u8) -> Prefix {
-    Prefix::new(bits, len).expect(rt, "a length of at most 32")
-}
-
-/// The attributes that a four-octet peer spells so.
-fn attrs(rt: &impl Abort, alloc: Global, field: &[u8]) -> Attrs {
-    read(alloc, field, Mode::Four).expect(rt, "memory").attrs
-}
 
 /// So many prefixes of length 24, from 10.0.0.0/24 on.
 fn prefixes(rt: &impl Abort, alloc: Global, count: u32) -> Vec<Prefix> {
@@ -40,11 +20,6 @@ fn prefixes(rt: &impl Abort, alloc: Global, count: u32) -> Vec<Prefix> {
 /// Room for the longest message.
 fn long_room(rt: &impl Abort, alloc: Global) -> Vec<u8> {
     Vec::from_elem(alloc, 0, 65535).expect(rt, "room")
-}
-
-/// Puts octets behind others.
-fn put(rt: &impl Abort, octets: &mut Vec<u8>, more: &[u8]) {
-    octets.extend_from_slice(more).expect(rt, "octets");
 }
 
 /// What the packer answers, where its conditions hold.

@@ -2,9 +2,9 @@
 
 ghost use Rattle.std.specs.Prelude.{◌≢◌};
 
-use crate::{Rank, Step, best, lost_by};
+use crate::common::{is, is_shown};
+use rs_decision::{Rank, Step, best, lost_by};
 use std::alloc::Global;
-use std::fmt::Debug;
 use std::process::Abort;
 
 const EQUAL: Rank = Rank {
@@ -17,11 +17,6 @@ const EQUAL: Rank = Rank {
     address: 30,
     place: 0,
 };
-
-/// This is found, and this was wanted, of what the text names.
-fn is<T: Debug + PartialEq + Drop>(rt: &impl Abort, found: T, want: T, of: &str) {
-    assert_eq!(rt; found, want, "{of}");
-}
 
 /// The ranks have different places.
 fn differ(rt: &impl Abort, first: Rank, second: Rank)
@@ -402,8 +397,7 @@ const LOSERS: [(Rank, Step, &str); 7] = [
 fn loses_by(rt: &impl Abort, alloc: Global, loser: Rank, step: Step, text: &str) {
     is(rt, second_lost_by(rt, EQUAL, loser), Some(step), text);
     is(rt, second_lost_by(rt, loser, EQUAL), None, text);
-    let line = format!(in alloc; "{step}").expect(rt, "a text");
-    is(rt, line.as_str(), text, "the text of a step");
+    is_shown(rt, format!(in alloc; "{step}"), text);
 }
 
 #[test]

@@ -2,24 +2,14 @@
 
 mod naming;
 
-use crate::{
+use crate::common::{holds, is, is_shown};
+use rs_octets::{
     AS_TRANS, Allowed, FieldFault, Front, Head, HeaderFault, Kind, Prefix, header, laws, put,
     put_header, put_prefix, read_front, read_prefixes,
 };
-use std::alloc::{AllocError, Global};
+use std::alloc::Global;
 use std::cmp::Ordering;
-use std::fmt::Debug;
 use std::process::Abort;
-
-/// This is found, and this was wanted, of what the text names.
-fn is<T: Debug + PartialEq + Drop>(rt: &impl Abort, found: T, want: T, of: &str) {
-    assert_eq!(rt; found, want, "{of}");
-}
-
-/// What the text says holds.
-fn holds(rt: &impl Abort, is_so: bool, what: &str) {
-    assert!(rt; is_so, "{what}");
-}
 
 const PLAIN: Allowed = Allowed {
     long: false,
@@ -179,11 +169,6 @@ fn finds_the_fault_of_a_header(rt: HostRuntime) {
         Front::Message { .. } | Front::Fault(_) => false,
     };
     holds(&rt, is_wanted, "four octets are wanted");
-}
-
-/// What is shown is this text.
-fn is_shown(rt: &impl Abort, shown: Result<String, AllocError>, want: &str) {
-    is(rt, shown.expect(rt, "a text").as_str(), want, "a text");
 }
 
 /// A fault of a header is shown by this text.

@@ -1,9 +1,9 @@
 //! Rows of a table: a body, and what an UPDATE with it does, in words.
 
-use super::{is, octets};
-use crate::outcome::{Outcome, effect};
+use crate::common::{is, octets};
 use rs_attrs::{AttributeRef, Attrs, Mode};
 use rs_octets::Prefix;
+use rs_update::{Outcome, effect};
 use std::alloc::{AllocError, Global};
 use std::process::Abort;
 

@@ -1,7 +1,7 @@
 //! Bodies of OPENs and of ROUTE-REFRESHes, and what is read from them.
 
-use super::{is, octets};
-use crate::{AddressFamily, Open, OpenFault, read_open, read_refresh};
+use crate::common::{is, octets};
+use rs_open::{AddressFamily, Open, OpenFault, read_open, read_refresh};
 use std::alloc::Global;
 use std::process::Abort;
 
