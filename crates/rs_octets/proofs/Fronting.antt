@@ -1,17 +1,17 @@
 -- What stands at the front of octets, and what is heard of them by it.
-use Rattle.std.proofs.Common.{◌≡◌, ◌<◌, ◌≤◌, ◌-◌, ℕ, Bool, true, false, List, [], ◌∷◌, ◌++◌, length, map, take, drop, refl, sym, ◌∙◌, ap, subst, arith, nat_lt, length-append}
+use Rattle.std.proofs.Common.{◌≡◌, ◌<◌, ◌≤◌, ◌+◌, ◌-◌, ℕ, Bool, true, false, List, [], ◌∷◌, ◌++◌, length, map, take, drop, refl, sym, ◌∙◌, ap, subst, arith, nat_lt, length-append}
 use Rattle.std.specs.Prelude.{Result, Ok, Err, if◌then◌else◌}
 use Rattle.std.proofs.lemmas.Bool.{le-ltb, lt-ltb}
-use Rattle.std.proofs.lemmas.List.{length-take-le, take-append-drop, take-append-le}
+use Rattle.std.proofs.lemmas.List.{length-drop, length-take-le, take-append-drop, take-append-le}
 use Rattle.rs_octets.specs.declared.heads.Allowed.{Allowed}
 use Rattle.rs_octets.specs.declared.heads.Head.{Head}
 use Rattle.rs_octets.specs.declared.heads.HeaderFault.{HeaderFault}
 use Rattle.rs_octets.specs.declared.heads.Kind.{Kind}
-use Rattle.rs_octets.specs.Headers.{header_of}
+use Rattle.rs_octets.specs.Headers.{header_of, least_length}
 use Rattle.rs_octets.specs.Messages.{IsMessageOf, header_fault, header_fault_of, length_within, message_length, messages_of, rest_of, heard_of}
 use Rattle.rs_octets.specs.Fronts.{BeginsWith, BeginsFaulty, Wants, wanted_by}
 use Rattle.rs_octets.proofs.Cut.{first_message, header_long, none_found, stops_are}
-use Rattle.rs_octets.proofs.GoodHeaders.{of_type_is}
+use Rattle.rs_octets.proofs.GoodHeaders.{least_is_a_header, of_type_is}
 use Rattle.rs_octets.proofs.Pieces.{faulty_is, faulty_heard, same_header, stays_long}
 
 -- ---- what the code finds there
@@ -35,6 +35,14 @@ message_begins a octets front message body rest head n long is good size room ta
       body_is = behind;
       whole = sym (take-append-drop n octets) ∙ (λ i. sym taken i ++ sym left i);
     }
+
+-- its parts are as long as the octets
+pub message_sizes : (kind : Kind) (octets message body rest : List ℕ) (n : ℕ) → least_length kind ≤ n → length message ≡ n → body ≡ drop 19 message → length rest + n ≡ length octets
+    → (least_length kind ≤ 19 + length body) × (19 + length body + length rest ≡ length octets)
+message_sizes kind octets message body rest n enough size behind left =
+    let long : 19 ≤ n = omega (arith, least_is_a_header kind, enough) in
+    let short : length body ≡ n - 19 = ap length behind ∙ length-drop 19 message ∙ ap (λ n. n - 19) size in
+    (omega (arith, long, short, enough), omega (arith, long, short, left))
 
 -- ---- what is heard by it
 

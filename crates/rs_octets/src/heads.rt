@@ -3,12 +3,12 @@
 ghost use Rattle.std.specs.Prelude.{◌≡◌, ◌==◌, ◌≤◌, length, IfOk};
 ghost use Rattle.std.specs.List.{list_all};
 ghost use Rattle.std.specs.Int.{is_in_range};
+ghost use Rattle.rs_octets.specs.Headers;
 ghost use Rattle.rs_octets.specs.Headers.{type_number, kind_numbered, least_length, greatest_length, HasLengthOfType, header_of, header_octets};
 ghost use Rattle.rs_octets.specs.Writes.{Writes};
 
 use crate::numbers::{LONGEST_MESSAGE, longest_message};
 use crate::writes::put;
-use byteorder::{BigEndian, ByteOrder};
 use thiserror::Error;
 
 /// The type of a message (RFC 4271, 4.1; RFC 2918, 3).
@@ -121,6 +121,20 @@ fn is_marker(octets: &[u8]) -> bool
     octets.iter().all(|octet| *octet == 255)
 }
 
+/// The last two checks of a header: its type is known, and its length one of that type.
+fn head_of_type(length: u16, number: u8, allowed: Allowed) -> Result<Head, HeaderFault>
+    ensures value { result ≡ Headers.head_of_type allowed (kind_numbered allowed number) length number }
+    ensures length { IfOk result (λ head. HasLengthOfType allowed head) }
+{
+    let Some(kind) = Kind::numbered(number, allowed) else {
+        return Err(HeaderFault::Kind(number));
+    };
+    if !is_within(kind.least_length(), kind.greatest_length(allowed), length) {
+        return Err(HeaderFault::Length(length));
+    }
+    Ok(Head { length, kind })
+}
+
 /// Reads a message's header: the marker, the length, the type and the length of that type are
 /// checked in this order, and the first check that fails is the fault.
 pub fn header(octets: &[u8; 19], allowed: Allowed) -> Result<Head, HeaderFault>
@@ -130,18 +144,11 @@ pub fn header(octets: &[u8; 19], allowed: Allowed) -> Result<Head, HeaderFault>
     if !is_marker(&octets[..16]) {
         return Err(HeaderFault::Marker);
     }
-    let length = BigEndian::read_u16(&octets[16..18]);
+    let length = u16::from_be_bytes([octets[16], octets[17]]);
     if !is_within(19, longest_message(allowed.long), length) {
         return Err(HeaderFault::Length(length));
     }
-    let number = octets[18];
-    let Some(kind) = Kind::numbered(number, allowed) else {
-        return Err(HeaderFault::Kind(number));
-    };
-    if !is_within(kind.least_length(), kind.greatest_length(allowed), length) {
-        return Err(HeaderFault::Length(length));
-    }
-    Ok(Head { length, kind })
+    head_of_type(length, octets[18], allowed)
 }
 
 /// Writes a message's header at the front of a slice, and answers where it ends. `total` is the

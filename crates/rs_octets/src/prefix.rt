@@ -1,6 +1,7 @@
 //! IPv4 prefixes, and the fields of messages that list them (RFC 4271, 4.3).
 
-ghost use Rattle.std.specs.Prelude.{◌≡◌, ◌+◌, ◌≤◌, ◌<◌, length, Some, None, if◌then◌else◌, nat_lt};
+ghost use Rattle.std.specs.Prelude.{◌≡◌, ◌+◌, ◌≤◌, [], ◌∷◌, ◌++◌, length, drop, Some, None, if◌then◌else◌, nat_lt};
+ghost use Rattle.std.specs.Int.{w32, from_be_bytes};
 ghost use Rattle.std.specs.Iterator.{YieldsFirst, item_count};
 ghost use Rattle.rs_octets.specs.Prefixes.{masked, octet_count, IsIpv4Prefix};
 ghost use Rattle.rs_octets.specs.PrefixFields.{prefixes_of, prefix_octets};
@@ -141,6 +142,16 @@ pub fn read_prefixes(field: &[u8]) -> PrefixIter<'_>
     PrefixIter { rest: field }
 }
 
+/// The address that up to four octets begin; its other octets are 0.
+fn address(front: &[u8]) -> u32
+    requires { length front.now ≤ 4 }
+    ensures { result ≡ from_be_bytes w32 (front.now ++ drop (length front.now) (0 ∷ 0 ∷ 0 ∷ 0 ∷ [])) }
+{
+    let mut octets = [0; 4];
+    octets[..front.len()].copy_from_slice(front);
+    BigEndian::read_u32(&octets)
+}
+
 impl Iterator for PrefixIter<'_> {
     type Item = Result<Prefix, FieldFault>;
 
@@ -161,8 +172,6 @@ impl Iterator for PrefixIter<'_> {
         }
         let (front, rest) = octets.split_at(size);
         self.rest = rest;
-        let mut bytes = [0; 4];
-        bytes[..size].copy_from_slice(front);
-        Some(Ok(Prefix::front_of(BigEndian::read_u32(&bytes), len)))
+        Some(Ok(Prefix::front_of(address(front), len)))
     }
 }
