@@ -10,7 +10,7 @@ use Rattle.rs_open.specs.declared.open.OpenFault.TheVariants.{Parameter}
 use Rattle.rs_open.specs.declared.reading.Capabilities.{Capabilities}
 use Rattle.rs_open.specs.Triples.{Triple, Row, row_of, with_first}
 use Rattle.rs_open.specs.Opens.{four_of, long_of, is_four_octet_as, is_extended_message, holds_capabilities, capabilities_in, capability_faults, parameter_faults, rest_faults, row_faults, unless}
-use Rattle.rs_open.specs.Walk.{with_capabilities, capabilities_answer, parameters_answer}
+use Rattle.rs_open.specs.Walk.{with_capabilities, capability_answer, capabilities_answer, parameters_answer}
 
 -- ---- capabilities that are read in two parts
 
@@ -45,6 +45,14 @@ no_fault (fault ∷ faults) a b e = cc
 answered : {A : Type 0} (faults : List OpenFault) (a b : A) → Ok b ≡ unless faults a → a ≡ b
 answered [] a b e = cc
 answered (fault ∷ faults) a b e = cc
+
+-- a capability that is not bad
+pub capability_read : (had found : Capabilities) (t : Triple) (row : Row) → Ok found ≡ capability_answer had t → capabilities_answer had (with_first t row) ≡ capabilities_answer found row
+capability_read had found t row e =
+    let faults : List OpenFault = capability_faults t in
+    let said : Capabilities = with_capabilities had (t ∷ []) in
+    ap (λ fs. unless (fs ++ flat_map capability_faults row.triples ++ rest_faults row.rest) (with_capabilities had (t ∷ row.triples))) (no_fault faults said found e)
+    ∙ ap (λ c. unless (row_faults capability_faults row) c) (with_more had (t ∷ []) row.triples ∙ ap (λ c. with_capabilities c row.triples) (answered faults said found e))
 
 -- a parameter with capabilities of which none is bad
 pub parameter_read : (had found : Capabilities) (t : Triple) (row : Row) → holds_capabilities t ≡ true → Ok found ≡ capabilities_answer had (row_of t.value)

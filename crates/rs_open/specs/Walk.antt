@@ -1,8 +1,10 @@
 -- Steps of the reader: what it has from the triples so far, and what it answers for those that are left.
-use Rattle.std.specs.Prelude.{ℕ, ◌+◌, ◌++◌, [], ◌∷◌, Bool, ◌||◌, if◌then◌else◌, List, None, false, Result}
+use Rattle.std.specs.Prelude.{ℕ, ◌==◌, ◌+◌, ◌++◌, [], ◌∷◌, Bool, ◌||◌, if◌then◌else◌, List, None, false, Result}
 use Rattle.std.specs.Option.{option_or}
 use Rattle.std.specs.List.{flat_map}
+use Rattle.rs_open.specs.declared.open.Open.{Open}
 use Rattle.rs_open.specs.declared.open.OpenFault.{OpenFault}
+use Rattle.rs_open.specs.declared.open.OpenFault.TheVariants.{Hold, Identifier}
 use Rattle.rs_open.specs.declared.triples.Triple as seen
 use Rattle.rs_open.specs.declared.reading.Capabilities.{Capabilities}
 use Rattle.rs_open.specs.declared.writing.ServerOpen.{ServerOpen}
@@ -11,7 +13,8 @@ use Rattle.rs_octets.specs.declared.heads.Kind.TheVariants as kinds
 use Rattle.rs_octets.specs.Headers.{header_octets}
 use Rattle.rs_open.specs.Writing.{my_as_said}
 use Rattle.byteorder.specs.Endian.{big_bytes}
-use Rattle.rs_open.specs.Opens.{four_of, long_of, capabilities_in, capability_faults, parameter_faults, row_faults, unless}
+use Rattle.rs_octets.specs.HoldTimes.{is_refused_hold}
+use Rattle.rs_open.specs.Opens.{four_of, long_of, my_as_field, hold_field, identifier_field, capabilities_in, capability_faults, parameter_faults, row_faults, when, unless}
 
 -- a triple in the octets that are read
 abbrev pub triple_in : seen.Triple → Triple
@@ -43,6 +46,13 @@ capabilities_answer had row = unless (row_faults capability_faults row) (with_ca
 abbrev pub parameters_answer : Capabilities → Row → Result Capabilities OpenFault
 parameters_answer had row =
     unless (row_faults parameter_faults row) (with_capabilities had (flat_map capabilities_in row.triples))
+
+-- what is answered for the other fields of a body, once its capabilities are known
+abbrev pub open_answer : Capabilities → List ℕ → Result Open OpenFault
+open_answer found body =
+    let my_as = my_as_field body in
+    unless (when (is_refused_hold (hold_field body)) (Hold my_as found.four) ++ when (identifier_field body == 0) (Identifier my_as found.four))
+    (record { my_as = my_as; four = found.four; hold = hold_field body; identifier = identifier_field body; long = found.long })
 
 -- ---- steps of the writer
 

@@ -3,7 +3,7 @@
 ghost use Rattle.std.specs.Prelude.{◌≡◌, ◌≤◌, length};
 ghost use Rattle.rs_open.specs.Triples.{row_of};
 ghost use Rattle.rs_open.specs.Opens.{open_of};
-ghost use Rattle.rs_open.specs.Walk.{triple_in, no_capabilities, capability_answer, capabilities_answer, parameters_answer};
+ghost use Rattle.rs_open.specs.Walk.{triple_in, no_capabilities, capability_answer, capabilities_answer, parameters_answer, open_answer};
 
 use crate::codes::{CAPABILITIES, EXTENDED_MESSAGE, FOUR_OCTET_AS, VERSION};
 use crate::open::{Open, OpenFault};
@@ -83,22 +83,12 @@ fn read_parameters(parameters: &[u8]) -> Result<Capabilities, OpenFault>
     }
 }
 
-/// Reads the body of an OPEN, the octets behind its header: at least 10.
-///
-/// Of several faults the first is answered, in the order of version, parameters from left to right,
-/// Hold Time and identifier (RFC 4271, 6.2). The AS number is left to the caller.
-pub fn read_open(body: &[u8]) -> Result<Open, OpenFault>
+/// What an OPEN with these capabilities says, or the fault of its Hold Time or of its identifier.
+fn open_with(body: &[u8], capabilities: Capabilities) -> Result<Open, OpenFault>
     requires { 10 ≤ length body.now }
-    ensures { result ≡ open_of body.now }
+    ensures { result ≡ open_answer capabilities body.now }
 {
-    if body[0] != VERSION {
-        return Err(OpenFault::Version);
-    }
-    let (fixed, parameters) = body.split_at(10);
-    if usize::from(fixed[9]) != parameters.len() {
-        return Err(OpenFault::Malformed);
-    }
-    let Capabilities { four, long } = read_parameters(parameters)?;
+    let Capabilities { four, long } = capabilities;
     let my_as = BigEndian::read_u16(&body[1..]);
     let hold = BigEndian::read_u16(&body[3..]);
     let identifier = BigEndian::read_u32(&body[5..]);
@@ -115,4 +105,22 @@ pub fn read_open(body: &[u8]) -> Result<Open, OpenFault>
         identifier,
         long,
     })
+}
+
+/// Reads the body of an OPEN, the octets behind its header: at least 10.
+///
+/// Of several faults the first is answered, in the order of version, parameters from left to right,
+/// Hold Time and identifier (RFC 4271, 6.2). The AS number is left to the caller.
+pub fn read_open(body: &[u8]) -> Result<Open, OpenFault>
+    requires { 10 ≤ length body.now }
+    ensures { result ≡ open_of body.now }
+{
+    if body[0] != VERSION {
+        return Err(OpenFault::Version);
+    }
+    let (fixed, parameters) = body.split_at(10);
+    if usize::from(fixed[9]) != parameters.len() {
+        return Err(OpenFault::Malformed);
+    }
+    open_with(body, read_parameters(parameters)?)
 }
