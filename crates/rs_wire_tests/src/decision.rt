@@ -393,17 +393,22 @@ const LOSERS: [(Rank, Step, &str); 7] = [
     ),
 ];
 
-/// This rank loses beside `EQUAL` by this step, whose text this is.
-fn loses_by(rt: &impl Abort, alloc: Global, loser: Rank, step: Step, text: &str) {
+/// This rank loses beside `EQUAL` by this step.
+fn loses_by(rt: &impl Abort, loser: Rank, step: Step, text: &str) {
     is(rt, second_lost_by(rt, EQUAL, loser), Some(step), text);
     is(rt, second_lost_by(rt, loser, EQUAL), None, text);
+}
+
+/// This is the text of a step.
+fn step_is_shown(rt: &impl Abort, alloc: Global, step: Step, text: &str) {
     is_shown(rt, format!(in alloc; "{step}"), text);
 }
 
 #[test]
 fn a_loser_knows_its_step(rt: HostRuntime) {
     for (loser, step, text) in &LOSERS {
-        loses_by(&rt, rt.alloc(), *loser, *step, text);
+        loses_by(&rt, *loser, *step, text);
+        step_is_shown(&rt, rt.alloc(), *step, text);
     }
 }
 

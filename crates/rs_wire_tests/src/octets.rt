@@ -2,7 +2,7 @@
 
 mod naming;
 
-use crate::common::{holds, is, is_shown};
+use crate::common::{holds, is, is_shown, prefix};
 use rs_octets::{
     AS_TRANS, Allowed, FieldFault, Front, Head, HeaderFault, Kind, Prefix, header, laws, put,
     put_header, put_prefix, read_front, read_prefixes,
@@ -36,14 +36,22 @@ fn is_head(rt: &impl Abort, octets: &[u8; 19], allowed: Allowed, length: u16, ki
     is(rt, header(octets, allowed), Ok(want), "a header");
 }
 
+/// What stands behind the marker of good headers, each with its length and type.
+const HEADS: [([u8; 3], Allowed, u16, Kind); 6] = [
+    ([0, 37, 1], PLAIN, 37, Kind::Open),
+    ([0, 47, 2], PLAIN, 47, Kind::Update),
+    ([0, 21, 3], PLAIN, 21, Kind::Note),
+    ([0, 19, 4], PLAIN, 19, Kind::Keepalive),
+    ([0, 23, 5], ALL, 23, Kind::Refresh),
+    ([255, 255, 2], ALL, 65535, Kind::Update),
+];
+
 #[test]
 fn reads_headers(rt: HostRuntime) {
-    is_head(&rt, &headed(0, 37, 1), PLAIN, 37, Kind::Open);
-    is_head(&rt, &headed(0, 47, 2), PLAIN, 47, Kind::Update);
-    is_head(&rt, &headed(0, 21, 3), PLAIN, 21, Kind::Note);
-    is_head(&rt, &headed(0, 19, 4), PLAIN, 19, Kind::Keepalive);
-    is_head(&rt, &headed(0, 23, 5), ALL, 23, Kind::Refresh);
-    is_head(&rt, &headed(255, 255, 2), ALL, 65535, Kind::Update);
+    for ([high, low, number], allowed, length, kind) in &HEADS {
+        let octets = headed(*high, *low, *number);
+        is_head(&rt, &octets, *allowed, *length, *kind);
+    }
 }
 
 /// The octets are refused for this fault.
@@ -51,19 +59,22 @@ fn is_refused(rt: &impl Abort, octets: &[u8; 19], allowed: Allowed, fault: Heade
     is(rt, header(octets, allowed), Err(fault), "a header");
 }
 
+/// What stands behind the marker of headers that are refused, each with its fault.
+const REFUSED: [([u8; 3], Allowed, HeaderFault); 7] = [
+    ([16, 1, 2], PLAIN, HeaderFault::Length(4097)),
+    ([0, 20, 4], PLAIN, HeaderFault::Length(20)),
+    ([0, 19, 5], PLAIN, HeaderFault::Kind(5)),
+    ([16, 1, 4], ALL, HeaderFault::Length(4097)),
+    ([16, 1, 1], ALL, HeaderFault::Length(4097)),
+    ([0, 24, 5], ALL, HeaderFault::Length(24)),
+    ([16, 1, 9], PLAIN, HeaderFault::Length(4097)),
+];
+
 #[test]
 fn refuses_headers(rt: HostRuntime) {
-    let cases = [
-        (headed(16, 1, 2), PLAIN, HeaderFault::Length(4097)),
-        (headed(0, 20, 4), PLAIN, HeaderFault::Length(20)),
-        (headed(0, 19, 5), PLAIN, HeaderFault::Kind(5)),
-        (headed(16, 1, 4), ALL, HeaderFault::Length(4097)),
-        (headed(16, 1, 1), ALL, HeaderFault::Length(4097)),
-        (headed(0, 24, 5), ALL, HeaderFault::Length(24)),
-        (headed(16, 1, 9), PLAIN, HeaderFault::Length(4097)),
-    ];
-    for (octets, allowed, fault) in cases {
-        is_refused(&rt, &octets, allowed, fault);
+    for ([high, low, number], allowed, fault) in &REFUSED {
+        let octets = headed(*high, *low, *number);
+        is_refused(&rt, &octets, *allowed, *fault);
     }
     let mut octets = headed(0, 19, 4);
     octets[15] = 0;
@@ -118,12 +129,26 @@ fn message_in(octets: &[u8]) -> Option<(Kind, &[u8], &[u8])> {
     }
 }
 
+/// The fault of a header that is refused.
+fn fault_of(front: Front<'_>) -> Option<HeaderFault> {
+    match front {
+        Front::Fault(fault) => Some(fault),
+        Front::Message { .. } | Front::Wants(_) => None,
+    }
+}
+
 /// How many octets are wanted, where some are.
-fn wanted(octets: &[u8]) -> Option<usize> {
-    match read_front(octets, PLAIN) {
+fn wanted(front: Front<'_>) -> Option<usize> {
+    match front {
         Front::Wants(more) => Some(more),
         Front::Message { .. } | Front::Fault(_) => None,
     }
+}
+
+/// So many octets more are wanted.
+fn wants(rt: &impl Abort, octets: &[u8], more: usize) {
+    let found = wanted(read_front(octets, PLAIN));
+    is(rt, found, Some(more), "octets wanted");
 }
 
 /// A message of this type and body is in front; answers the octets behind it.
@@ -142,16 +167,16 @@ fn reads_messages_from_the_front(rt: HostRuntime) {
     let withdrawal = b"\x00\x04\x18\xc6\x33\x64\x00\x00";
     let rest = behind(&rt, rest, Kind::Update, withdrawal);
     is(&rt, rest.len(), 18, "octets behind the second");
-    is(&rt, wanted(rest), Some(1), "octets wanted");
+    wants(&rt, rest, 1);
 }
 
 #[test]
 fn wants_the_header_and_then_the_message(rt: HostRuntime) {
-    is(&rt, wanted(&[]), Some(19), "octets wanted at first");
+    wants(&rt, &[], 19);
     let update = &THREE[19..46];
     for come in 0..27 {
         let more = if come < 19 { 19 - come } else { 27 - come };
-        is(&rt, wanted(&update[..come]), Some(more), "octets wanted");
+        wants(&rt, &update[..come], more);
     }
     holds(&rt, message_in(update).is_some(), "a message is read");
 }
@@ -159,16 +184,10 @@ fn wants_the_header_and_then_the_message(rt: HostRuntime) {
 #[test]
 fn finds_the_fault_of_a_header(rt: HostRuntime) {
     let header = headed(0, 23, 5);
-    let is_fault = match read_front(&header, PLAIN) {
-        Front::Fault(fault) => fault == HeaderFault::Kind(5),
-        Front::Message { .. } | Front::Wants(_) => false,
-    };
-    holds(&rt, is_fault, "the type is none");
-    let is_wanted = match read_front(&header, ALL) {
-        Front::Wants(more) => more == 4,
-        Front::Message { .. } | Front::Fault(_) => false,
-    };
-    holds(&rt, is_wanted, "four octets are wanted");
+    let fault = fault_of(read_front(&header, PLAIN));
+    is(&rt, fault, Some(HeaderFault::Kind(5)), "the type is none");
+    let more = wanted(read_front(&header, ALL));
+    is(&rt, more, Some(4), "octets wanted");
 }
 
 /// A fault of a header is shown by this text.
@@ -221,26 +240,26 @@ fn makes_prefixes(rt: HostRuntime) {
 }
 
 /// The first of two is less than the second.
-fn rises(rt: &impl Abort, first: Option<Prefix>, second: Option<Prefix>) {
+fn rises(rt: &impl Abort, first: Prefix, second: Prefix) {
     holds(rt, first < second, "the first is less");
-    if let (Some(a), Some(b)) = (first, second) {
-        let order = laws::order_of(&a, &b);
-        is(rt, order, Ordering::Less, "the order");
-    }
+    let order = laws::order_of(&first, &second);
+    is(rt, order, Ordering::Less, "the order");
 }
+
+/// Bits and lengths of prefixes, of which each first is less than its second.
+const RISING: [[(u32, u8); 2]; 5] = [
+    [(0, 0), (0, 8)],
+    [(0, 8), (0x0a00_0000, 8)],
+    [(0x0a00_0000, 8), (0x0a00_0000, 24)],
+    [(0x0a00_0000, 24), (0x0a00_0100, 24)],
+    [(0x0a00_0100, 24), (0xc000_0000, 2)],
+];
 
 #[test]
 fn orders_prefixes(rt: HostRuntime) {
-    let rising = [
-        Prefix::new(0, 0),
-        Prefix::new(0, 8),
-        Prefix::new(0x0a00_0000, 8),
-        Prefix::new(0x0a00_0000, 24),
-        Prefix::new(0x0a00_0100, 24),
-        Prefix::new(0xc000_0000, 2),
-    ];
-    for pair in rising.windows(2) {
-        rises(&rt, pair[0], pair[1]);
+    for [(first, short), (second, long)] in &RISING {
+        let first = prefix(&rt, *first, *short);
+        rises(&rt, first, prefix(&rt, *second, *long));
     }
 }
 

@@ -165,17 +165,23 @@ fn open_is_written(rt: &impl Abort, alloc: Global, said: &ServerOpen, text: &str
     is_written(rt, &out, size, &wanted, text);
 }
 
+/// The OPEN of a row is written as its octets.
+fn row_is_written(rt: &impl Abort, alloc: Global, row: &Row) {
+    let (server_as, multiprotocol, extended, refresh, text) = *row;
+    let said = ServerOpen {
+        server_as,
+        multiprotocol,
+        extended,
+        refresh,
+        ..SAID
+    };
+    open_is_written(rt, alloc, &said, text);
+}
+
 #[test]
 fn writes_opens(rt: HostRuntime) {
-    for (server_as, multiprotocol, extended, refresh, text) in OPENS {
-        let said = ServerOpen {
-            server_as,
-            multiprotocol,
-            extended,
-            refresh,
-            ..SAID
-        };
-        open_is_written(&rt, rt.alloc(), &said, text);
+    for row in &OPENS {
+        row_is_written(&rt, rt.alloc(), row);
     }
 }
 

@@ -113,12 +113,22 @@ fn holds_from_then_on(rt: &impl Abort, session: &Session, mode: Mode, limit: Lim
     is(rt, session.identifier(), 0xc000_020b, name);
 }
 
+/// A session that hears this OPEN first takes it.
+fn is_taken(
+    rt: &impl Abort,
+    name: &str,
+    settings: Settings,
+    body: &'static [u8],
+    holds: (Mode, Limit),
+) {
+    let mut session = connected(rt, settings);
+    play(rt, name, &mut session, &[(Call::Open(body), SAY_KEEPALIVE)]);
+    holds_from_then_on(rt, &session, holds.0, holds.1, name);
+}
+
 #[test]
 fn opens_that_are_taken(rt: HostRuntime) {
-    for (name, settings, body, mode, limit) in TAKEN {
-        let mut session = connected(&rt, settings);
-        let script = [(Call::Open(body), SAY_KEEPALIVE)];
-        play(&rt, name, &mut session, &script);
-        holds_from_then_on(&rt, &session, mode, limit, name);
+    for (name, settings, body, mode, limit) in &TAKEN {
+        is_taken(&rt, name, *settings, body, (*mode, *limit));
     }
 }
