@@ -80,15 +80,19 @@ impl Cause {
     }
 }
 
+/// Puts the name and the number of a type.
+fn put_kind<W: fmt::Write>(f: &mut fmt::Formatter<W>, kind: u8) -> fmt::Result {
+    match attribute_name(kind) {
+        Some(name) => write!(f, "{name} ({kind})"),
+        None => write!(f, "attribute {kind}"),
+    }
+}
+
 impl AttributeFault {
     /// Puts the attribute, what came of it and why.
     fn put<W: fmt::Write>(&self, f: &mut fmt::Formatter<W>, outcome: &str) -> fmt::Result {
-        let AttributeFault { kind, cause } = *self;
-        match attribute_name(kind) {
-            Some(name) => write!(f, "{name} ({kind})")?,
-            None => write!(f, "attribute {kind}")?,
-        }
-        write!(f, " {outcome}: {}", cause.text())
+        put_kind(f, self.kind)?;
+        write!(f, " {outcome}: {}", self.cause.text())
     }
 }
 
@@ -99,18 +103,18 @@ impl fmt::Display for Faulted {
         if let Some(fault) = self.withdraw {
             fault.put(f, "treated as withdraw")?;
             if self.discard.is_some() {
-                write!(f, "; ")?;
+                f.write_str("; ")?;
             }
         }
-        if let Some(fault) = self.discard {
-            fault.put(f, "discarded")?;
+        match self.discard {
+            Some(fault) => fault.put(f, "discarded"),
+            None => Ok(()),
         }
-        Ok(())
     }
 }
 
 /// An attribute at fault, and what comes of it.
-#[derive(Clone, Copy, Debug)]
+#[derive(Clone, Copy)]
 pub(crate) struct Flaw {
     pub(crate) outcome: Outcome,
     pub(crate) fault: AttributeFault,

@@ -26,7 +26,7 @@ pub struct LargeCommunityPattern {
 }
 
 /// A large community (RFC 8092, 3): the Global Administrator and the two parts of local data.
-#[derive(Clone, Copy, Debug)]
+#[derive(Clone, Copy)]
 pub(crate) struct LargeCommunity {
     pub(crate) global: u32,
     pub(crate) first: u32,
@@ -78,7 +78,7 @@ pub(crate) fn large_fits_any(community: LargeCommunity, patterns: &[LargeCommuni
 }
 
 /// The large communities that octets spell, three numbers of four octets each.
-#[derive(Debug, Drop)]
+#[derive(Drop)]
 pub(crate) struct LargeCommunities<'a> {
     numbers: Numbers<'a>,
 }

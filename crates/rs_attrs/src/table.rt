@@ -14,7 +14,7 @@ use crate::types::{
 };
 
 /// What comes of the attribute that counts of a type (RFC 7606, 2).
-#[derive(Clone, Copy, Debug, PartialEq, Eq)]
+#[derive(Clone, Copy)]
 pub(crate) enum Outcome {
     Kept,
     /// Treat-as-withdraw.
@@ -26,7 +26,7 @@ pub(crate) enum Outcome {
 }
 
 /// The optional and the transitive flag of a type (RFC 4271, 5).
-#[derive(Clone, Copy, Debug, PartialEq, Eq)]
+#[derive(Clone, Copy)]
 pub(crate) enum Class {
     WellKnown,
     OptionalTransitive,
@@ -36,7 +36,7 @@ pub(crate) enum Class {
 }
 
 /// Which values are well formed.
-#[derive(Clone, Copy, Debug, PartialEq, Eq)]
+#[derive(Clone, Copy)]
 pub(crate) enum Shape {
     Origin,
     AsPath,
@@ -51,7 +51,7 @@ pub(crate) enum Shape {
 }
 
 /// The partial bit that an attribute of a type has from here on (RFC 4271, 5).
-#[derive(Clone, Copy, Debug, PartialEq, Eq)]
+#[derive(Clone, Copy)]
 pub(crate) enum Partial {
     Never,
     AsReceived,
@@ -60,7 +60,7 @@ pub(crate) enum Partial {
 }
 
 /// All that is known of a type of attribute.
-#[derive(Clone, Copy, Debug)]
+#[derive(Clone, Copy)]
 pub(crate) struct TypeRow {
     pub(crate) kind: u8,
     /// How the standards write it.

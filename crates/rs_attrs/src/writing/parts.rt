@@ -18,7 +18,7 @@ use rs_octets::put;
 use std::marker::Model;
 
 /// How a value is written.
-#[derive(Clone, Copy, Debug)]
+#[derive(Clone, Copy)]
 pub(crate) enum Form {
     Whole,
     /// With AS numbers in two octets, where it is a path.
@@ -28,7 +28,7 @@ pub(crate) enum Form {
 }
 
 /// An attribute that is to be written: its head as it is written, and its value as it is held.
-#[derive(Debug, Drop)]
+#[derive(Drop)]
 pub(crate) struct Part<'a> {
     head: Head,
     form: Form,
@@ -138,7 +138,7 @@ impl<'a> Part<'a> {
 }
 
 /// The attributes from one on, as they are held.
-#[derive(Debug, Drop)]
+#[derive(Drop)]
 struct Left<'a> {
     heads: &'a [Head],
     values: &'a [u8],
@@ -206,7 +206,7 @@ impl<'a> Left<'a> {
 }
 
 /// What is left to be written.
-#[derive(Debug, Drop)]
+#[derive(Drop)]
 pub(crate) struct Parts<'a> {
     mode: Mode,
     left: Left<'a>,
