@@ -16,14 +16,14 @@ use rs_octets::Prefix;
 use std::marker::Model;
 
 /// Whether a route is passed on or dropped.
-#[derive(Clone, Copy, Debug, PartialEq, Eq)]
+#[derive(Clone, Copy, Debug)]
 pub(crate) enum Disposition {
     Pass,
     Drop,
 }
 
 /// A part of a community that a rule tests.
-#[derive(Clone, Copy, Debug, PartialEq, Eq)]
+#[derive(Clone, Copy, Debug)]
 pub(crate) enum Part {
     Number(u32),
     /// Any number.
@@ -33,14 +33,14 @@ pub(crate) enum Part {
 }
 
 /// Which communities (RFC 1997) a rule asks for: the first and the last 16 bits.
-#[derive(Clone, Copy, Debug, PartialEq, Eq)]
+#[derive(Clone, Copy, Debug)]
 pub(crate) struct CommunityTest {
     pub(crate) high: Part,
     pub(crate) low: Part,
 }
 
 /// Which large communities (RFC 8092) a rule asks for: the Global Administrator and the local data.
-#[derive(Clone, Copy, Debug, PartialEq, Eq)]
+#[derive(Clone, Copy, Debug)]
 pub(crate) struct LargeCommunityTest {
     pub(crate) global: Part,
     pub(crate) first: Part,
@@ -164,7 +164,7 @@ pub(crate) enum Action {
 }
 
 /// The routes within a prefix whose lengths are from `min` to `max`.
-#[derive(Clone, Copy, Debug, PartialEq, Eq)]
+#[derive(Clone, Copy, Debug)]
 pub(crate) struct Range {
     pub(crate) prefix: Prefix,
     pub(crate) min: u8,
@@ -172,7 +172,7 @@ pub(crate) struct Range {
 }
 
 /// What a rule asks of the prefix, the sender and the attributes of a route.
-#[derive(Clone, Copy, Debug, PartialEq, Eq)]
+#[derive(Clone, Copy, Debug)]
 pub(crate) struct Tests {
     /// The place of a list with prefixes, from 0.
     pub(crate) prefix_in: Option<usize>,
