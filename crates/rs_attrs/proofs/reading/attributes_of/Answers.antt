@@ -1,13 +1,14 @@
 use Rattle.std.proofs.Common.{◌≡◌, ◌+◌, ◌-◌, ℕ, List, [], length, drop, get_or, sym, subst, ap, ◌∙◌, arith}
 use Rattle.std.specs.Prelude.{Vec}
 use Rattle.std.specs.Global.{Global}
-use Rattle.std.proofs.lemmas.List.{drop_more}
+use Rattle.std.proofs.lemmas.List.{drop_more, drop_all}
 use Rattle.rs_attrs.specs.declared.attrs.Head.{Head}
 use Rattle.rs_attrs.specs.declared.reading.field.Found.{Found}
 use Rattle.rs_attrs.specs.Meaning.{value_meant}
 use Rattle.rs_attrs.specs.Walking.{noted, spelling_in}
+use Rattle.rs_attrs.specs.Writing.{IsLegal}
 use Rattle.rs_attrs.proofs.Fields.Placing.{rising_noted}
-use Rattle.rs_attrs.proofs.Fields.Building.{Building, building_skip, building_noted, added_length}
+use Rattle.rs_attrs.proofs.Fields.Building.{Building, building_start, building_skip, building_noted, building_end, added_length}
 use Rattle.rs_attrs.proofs.reading.attributes_of.Goals as goal
 use Rattle.rs_attrs.proofs.reading.attributes_of.Goals.{then-not-has_no_meaning+in_ok-push_value+in_ok-push, else-not-has_no_meaning}
 
@@ -43,3 +44,16 @@ loop-found-preserved c =
           (subst (λ (values : List ℕ). P c.loop-found.heads.items values) (sym (ap (λ (v : Vec ℕ Global). v.items) w.values-is))
           (building_skip _ _ _ _ _ _ _ c.loop-found.invariant left (sym c.has_no_meaning.ensures ∙ w.if-not-has_no_meaning.false)))
     ]
+
+pub loop-found-init : goal.loop-found-init
+loop-found-init c = rw (c.in_ok-heads.ensures.items, c.in_ok-values.ensures.items) (building_start c.args.mode c.args.kept.now)
+
+pub of-requires-clause-size : goal.of-requires-clause-size
+of-requires-clause-size c = c.loop-found.invariant.size
+
+pub of-requires-clause-legal : goal.of-requires-clause-legal
+of-requires-clause-legal c =
+    subst IsLegal (sym (building_end _ _ _ _ _ c.loop-found.invariant (drop_all c.loop-found.found-index c.args.kept.now c.loop-found-test.false))) c.requires.legal
+
+pub returns : goal.returns
+returns c = c.of.ensures ∙ building_end _ _ _ _ _ c.loop-found.invariant (drop_all c.loop-found.found-index c.args.kept.now c.loop-found-test.false)

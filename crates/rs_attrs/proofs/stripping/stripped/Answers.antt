@@ -28,3 +28,9 @@ returns-clause-large c = ap large_communities_of (held c) ∙ stripped_large (ta
 
 pub returns-clause-others : goal.returns-clause-others
 returns-clause-others c kind other another = ap (get kind) (held c) ∙ others_stay (taken_by c.args.strip.now) kind c.args.attrs.now other another
+
+pub of-requires-clause-size : goal.of-requires-clause-size
+of-requires-clause-size c = c.loop-head.invariant.size
+
+pub returns-clause-value : goal.returns-clause-value
+returns-clause-value c = held c
