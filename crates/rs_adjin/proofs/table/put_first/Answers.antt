@@ -62,3 +62,18 @@ returns-in-Ok-clause-noted c f is h = c.put_row.ensures.noted f is (lists_notes 
 pub returns-in-Err-clause-noted : goal.returns-in-Err-clause-noted
 returns-in-Err-clause-noted c f is h =
     lists_notes c.put_row.new.table c.release.new.self c.release.ensures.rows f (c.put_row.ensures.noted f is (lists_notes c.args.table.now c.add_new.new.self c.add_new.ensures.rows f h))
+
+pub returns-in-Ok-clause-tied : goal.returns-in-Ok-clause-tied
+returns-in-Ok-clause-tied c = c.put_row.ensures.tied
+
+pub returns-in-Ok-clause-numbers : goal.returns-in-Ok-clause-numbers
+returns-in-Ok-clause-numbers c p n e = c.put_row.ensures.numbers p ∙ c.add_new.ensures.kept p n e
+
+pub returns-in-Ok-clause-others : goal.returns-in-Ok-clause-others
+returns-in-Ok-clause-others c q ne = c.put_row.ensures.numbers q ∙ c.add_new.ensures.others q ne
+
+pub returns-in_err-number-clause-numbers : goal.returns-in_err-number-clause-numbers
+returns-in_err-number-clause-numbers c = c.add_new.ensures.kept
+
+pub returns-in_err-number-clause-others : goal.returns-in_err-number-clause-others
+returns-in_err-number-clause-others c = c.add_new.ensures.others

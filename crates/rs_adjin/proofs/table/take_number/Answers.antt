@@ -15,3 +15,12 @@ returns-clause-gone c = row_here c.args.client c.args.table.now c.take_row.new.t
 
 pub returns-clause-left : goal.returns-clause-left
 returns-clause-left c = row_apart c.args.client c.args.table.now c.take_row.new.table c.in-Some.prefix c.args.number None (number c) c.take_row.ensures.numbers c.take_row.ensures.writes
+
+pub returns-clause-kept : goal.returns-clause-kept
+returns-clause-kept c = c.take_row.ensures.kept
+
+pub returns-clause-noted : goal.returns-clause-noted
+returns-clause-noted c = c.take_row.ensures.noted
+
+pub returns-clause-numbers : goal.returns-clause-numbers
+returns-clause-numbers c = c.take_row.ensures.numbers

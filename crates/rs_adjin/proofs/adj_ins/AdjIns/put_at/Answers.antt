@@ -28,3 +28,7 @@ returns-clause-noted c p at =
     let same : p ≡ c.in-Some.prefix = same_Some p c.in-Some.prefix (sym (c.args.self.now.table.inverse.there p c.args.number at) ∙ sym c.in-Some.ensures) in
     puts_note c.args.self.now _ c.args.client p (arc_value c.args.attrs.now) c.args.note
     (subst (λ x. PutsNote c.args.self.now.table c.put_row.new.table c.args.client x (arc_value c.args.attrs.now) c.args.note) (sym same) c.put_row.ensures.noted)
+
+pub returns-clause-numbers : goal.returns-clause-numbers
+unfolding number_of
+returns-clause-numbers c = c.put_row.ensures.numbers

@@ -1,6 +1,6 @@
 use Rattle.std.proofs.Common.{length, ◌∙◌, None}
 use Rattle.std.proofs.Math.ListN.{length-set}
-use Rattle.rs_adjin.specs.AdjIns.{client_count}
+use Rattle.rs_adjin.specs.AdjIns.{client_count, number_of}
 use Rattle.rs_adjin.proofs.Holding.{keeps_from_same}
 use Rattle.rs_adjin.proofs.Ties.{tied_after, writes_others, mandatory_written, none_mandatory}
 use Rattle.rs_adjin.proofs.Noted.{keeps_notes}
@@ -20,3 +20,7 @@ invariant_of-self-2 c = record {
 
 pub returns-clause-noted : goal.returns-clause-noted
 returns-clause-noted c = keeps_notes c.args.self.now _ c.withdraw_row.ensures.noted
+
+pub returns-clause-numbers : goal.returns-clause-numbers
+unfolding number_of
+returns-clause-numbers c = c.withdraw_row.ensures.numbers
