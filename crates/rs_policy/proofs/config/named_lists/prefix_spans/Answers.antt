@@ -1,4 +1,4 @@
-use Rattle.std.proofs.Common.{◌≡◌, [], ◌∷◌, ◌++◌, sym, arith, length-append}
+use Rattle.std.proofs.Common.{◌≡◌, [], ◌∷◌, ◌++◌, arith, length-append}
 use Rattle.rs_lists.specs.Lists.{covers}
 use Rattle.rs_policy.specs.Verdicts.{in_range}
 use Rattle.rs_policy.proofs.Judging.Spans.{one_more}
