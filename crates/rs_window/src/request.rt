@@ -15,7 +15,7 @@ pub const HEAD: usize = 8192;
 const FIELDS: usize = 32;
 
 /// A request for a page.
-#[derive(Clone, Copy, Debug, PartialEq, Eq)]
+#[derive(Clone, Copy)]
 pub struct Request {
     /// Where the target stands.
     pub target: Span,
@@ -30,7 +30,7 @@ pub struct Request {
 }
 
 /// Why a request is refused; it is the last of its connection.
-#[derive(Clone, Copy, Debug, PartialEq, Eq)]
+#[derive(Clone, Copy)]
 pub enum Refusal {
     /// 400: it is none, or it has a body, or not one `Host`.
     BadRequest,
@@ -45,7 +45,7 @@ pub enum Refusal {
 }
 
 /// What a visitor has said so far.
-#[derive(Clone, Copy, Debug, PartialEq, Eq)]
+#[derive(Clone, Copy)]
 pub enum Heard {
     /// No whole head yet.
     Part,
@@ -55,7 +55,7 @@ pub enum Heard {
 }
 
 /// What the fields of a head say of it.
-#[derive(Clone, Copy, Debug, PartialEq, Eq)]
+#[derive(Clone, Copy)]
 struct Said {
     /// A body comes behind it.
     has_body: bool,
