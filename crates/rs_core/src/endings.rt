@@ -118,7 +118,7 @@ pub struct FaultedUpdates {
 }
 
 /// What is kept of a client for the operator.
-#[derive(Clone, Copy, Debug)]
+#[derive(Clone, Copy)]
 pub(crate) struct Watched {
     pub(crate) ending: Option<Ending>,
     pub(crate) faulted: FaultedUpdates,

@@ -94,9 +94,12 @@ served = record {
 }
 
 -- before the UPDATE is taken it is not served
+some_none : (attributes : List Attribute) → ◌≡◌ {A = Option (List Attribute)} (Some attributes) None → ⊥
+some_none attributes same = cc
+
 none_told : (changes : List Change) → AllZip (λ body change. HasEffect body modes.Four (Changes change)) [] changes → due decided 1 n24 ≡ table_of changes n24 → ⊥
 unfolding all_types attributes_match matches outcome verdict unbeaten
-none_told [] zip same = let f : ◌≡◌ {A = Option (List Attribute)} (Some u1_attributes) None = same in cc
+none_told [] zip same = some_none u1_attributes same
 none_told (change ∷ changes) zip same = absurd zip
 
 not_served_yet : IsServed decided 1 → ⊥
