@@ -9,3 +9,4 @@ pub mod Behind
 pub mod Replaying
 pub mod Serving
 pub mod OperatorTexts
+pub mod WordCounts

@@ -37,6 +37,16 @@ pub data LineMeaning : Type 0 where
   -- the routes of the client's Loc-RIB are asked for
   Listed : ℕ → LineMeaning
 
+-- those of what is asked for by who runs the server
+abbrev pub operator_word_of : List ℕ → Option Word
+operator_word_of text =
+    if bytes_eq text (codes "shutdown") then Some Shutdown
+    else if bytes_eq text (codes "refresh") then Some Refresh
+    else if bytes_eq text (codes "more") then Some More
+    else if bytes_eq text (codes "rules") then Some Rules
+    else if bytes_eq text (codes "table") then Some Table
+    else None
+
 -- the words that a line may begin with
 abbrev pub word_of : List ℕ → Option Word
 word_of text =
@@ -46,12 +56,7 @@ word_of text =
     else if bytes_eq text (codes "moment") then Some Moment
     else if bytes_eq text (codes "open") then Some Open
     else if bytes_eq text (codes "lost") then Some Lost
-    else if bytes_eq text (codes "shutdown") then Some Shutdown
-    else if bytes_eq text (codes "refresh") then Some Refresh
-    else if bytes_eq text (codes "more") then Some More
-    else if bytes_eq text (codes "rules") then Some Rules
-    else if bytes_eq text (codes "table") then Some Table
-    else None
+    else operator_word_of text
 
 -- what comes of a value, or the fault where there is none
 abbrev pub with_value : {A B : Type 0} → Option A → LineFault → (A → Result B LineFault) → Result B LineFault

@@ -1,11 +1,11 @@
 //! The lines of a trace: what each says, and the first fault of one that says nothing. A further
-//! kind of line is a further row of `Word`, of `Entry` and of `entry_of`.
+//! kind of line is a further row of `Word`, of `Entry` and of what `entry_of` calls.
 
-ghost use Rattle.std.specs.Prelude.{◌≡◌, ℕ, List, Option, Ok, Err, if◌then◌else◌, length, nat_lt, not, take, ok_or, option_map};
+ghost use Rattle.std.specs.Prelude.{◌≡◌, ◌∷◌, [], ℕ, List, Option, Ok, Err, if◌then◌else◌, length, nat_lt, not, take, ok_or, option_map};
 ghost use Rattle.rs_open.specs.Notes.{shutdown_text};
 ghost use Rattle.rs_trace.specs.Words.{AreOperands};
 ghost use Rattle.rs_trace.specs.Output.{fault_text};
-ghost use Rattle.rs_trace.specs.Trace.{word_of, is_passed_over, octets_of, text_of, operator_text, meaning_of, line_of};
+ghost use Rattle.rs_trace.specs.Trace.{word_of, operator_word_of, is_passed_over, octets_of, text_of, operator_text, meaning_of, line_of};
 ghost use Rattle.rs_trace.specs.Entries.{entry_as_meaning, line_as_meaning};
 
 use crate::number::read_number;
@@ -119,7 +119,16 @@ fn read_word(text: &[u8]) -> Option<Word>
         Some(Word::Open)
     } else if text == b"lost".as_slice() {
         Some(Word::Lost)
-    } else if text == b"shutdown".as_slice() {
+    } else {
+        read_operator_word(text)
+    }
+}
+
+/// A word of what is asked for by who runs the server.
+fn read_operator_word(text: &[u8]) -> Option<Word>
+    ensures { result ≡ operator_word_of text.now }
+{
+    if text == b"shutdown".as_slice() {
         Some(Word::Shutdown)
     } else if text == b"refresh".as_slice() {
         Some(Word::Refresh)
@@ -183,6 +192,7 @@ fn place<P: Places>(names: &P, name: &[u8]) -> Result<usize, LineFault>
     names.place(name).ok_or(LineFault::UnknownClient)
 }
 
+#[tactic(auto, using(crate::proofs::WordCounts::too_many))]
 fn entry_of<P: Places>(
     names: &P,
     word: Word,
@@ -191,43 +201,76 @@ fn entry_of<P: Places>(
 ) -> Result<Entry, LineFault>
     ensures { (ws : List (List ℕ)) → AreOperands operands.entry ws → entry_as_meaning piece.new result ≡ meaning_of (P.place_of names.now) word ws }
 {
-    match (word, operands) {
-        (Word::Octets, Operands::Two(name, digits)) => {
-            let client = place(names, name)?;
-            let size = read_hex(digits, piece).ok_or(LineFault::BadHex)?;
-            Ok(Entry::Octets(client, size))
-        }
-        (Word::Octets, Operands::One(name)) => Ok(Entry::Octets(place(names, name)?, 0)),
-        (Word::Room, Operands::Two(name, number)) => {
-            let client = place(names, name)?;
-            let room = read_number(number).ok_or(LineFault::BadNumber)?;
-            Ok(Entry::Room(client, room))
-        }
-        (Word::Turn, Operands::Nothing) => Ok(Entry::Turn),
-        (Word::Moment, Operands::One(number)) => {
-            Ok(Entry::Moment(read_number(number).ok_or(LineFault::BadNumber)?))
-        }
-        (Word::Open, Operands::One(name)) => Ok(Entry::Open(place(names, name)?)),
-        (Word::Lost, Operands::One(name)) => Ok(Entry::Lost(place(names, name)?)),
-        (Word::Shutdown, Operands::One(name)) => {
-            let client = place(names, name)?;
+    match operands {
+        Operands::Nothing => entry_of_none(word),
+        Operands::One(operand) => entry_of_one(names, word, operand, piece),
+        Operands::Two(name, value) => entry_of_two(names, word, name, value, piece),
+        Operands::More => Err(LineFault::WordCount),
+    }
+}
+
+/// What a word asks for that stands alone.
+fn entry_of_none(word: Word) -> Result<Entry, LineFault>
+    ensures { (place_of : List ℕ → Option ℕ) (piece : List ℕ) → entry_as_meaning piece result ≡ meaning_of place_of word [] }
+{
+    match word {
+        Word::Turn => Ok(Entry::Turn),
+        _ => Err(LineFault::WordCount),
+    }
+}
+
+/// What a word asks for with one behind it.
+fn entry_of_one<P: Places>(
+    names: &P,
+    word: Word,
+    operand: &[u8],
+    piece: &mut [u8; 4096],
+) -> Result<Entry, LineFault>
+    ensures { entry_as_meaning piece.new result ≡ meaning_of (P.place_of names.now) word (operand.now ∷ []) }
+{
+    match word {
+        Word::Octets => Ok(Entry::Octets(place(names, operand)?, 0)),
+        Word::Moment => Ok(Entry::Moment(read_number(operand).ok_or(LineFault::BadNumber)?)),
+        Word::Open => Ok(Entry::Open(place(names, operand)?)),
+        Word::Lost => Ok(Entry::Lost(place(names, operand)?)),
+        Word::Shutdown => {
+            let client = place(names, operand)?;
             Ok(Entry::Commanded(client, Command::Stop(ShutdownText::NONE)))
         }
-        (Word::Shutdown, Operands::Two(name, digits)) => {
+        Word::Refresh => Ok(Entry::Commanded(place(names, operand)?, Command::Refresh)),
+        Word::More => Ok(Entry::More(read_text(operand, piece).ok_or(LineFault::BadHex)?)),
+        Word::Rules => Ok(Entry::Rules(read_text(operand, piece).ok_or(LineFault::BadHex)?)),
+        Word::Table => Ok(Entry::Table(place(names, operand)?)),
+        _ => Err(LineFault::WordCount),
+    }
+}
+
+/// What a word asks for with the name of a client and a value behind it.
+fn entry_of_two<P: Places>(
+    names: &P,
+    word: Word,
+    name: &[u8],
+    value: &[u8],
+    piece: &mut [u8; 4096],
+) -> Result<Entry, LineFault>
+    ensures { entry_as_meaning piece.new result ≡ meaning_of (P.place_of names.now) word (name.now ∷ value.now ∷ []) }
+{
+    match word {
+        Word::Octets => {
             let client = place(names, name)?;
-            let text = read_operator_text(digits, piece).ok_or(LineFault::BadHex)?;
+            let size = read_hex(value, piece).ok_or(LineFault::BadHex)?;
+            Ok(Entry::Octets(client, size))
+        }
+        Word::Room => {
+            let client = place(names, name)?;
+            let room = read_number(value).ok_or(LineFault::BadNumber)?;
+            Ok(Entry::Room(client, room))
+        }
+        Word::Shutdown => {
+            let client = place(names, name)?;
+            let text = read_operator_text(value, piece).ok_or(LineFault::BadHex)?;
             Ok(Entry::Commanded(client, Command::Stop(text)))
         }
-        (Word::Refresh, Operands::One(name)) => {
-            Ok(Entry::Commanded(place(names, name)?, Command::Refresh))
-        }
-        (Word::More, Operands::One(digits)) => {
-            Ok(Entry::More(read_text(digits, piece).ok_or(LineFault::BadHex)?))
-        }
-        (Word::Rules, Operands::One(digits)) => {
-            Ok(Entry::Rules(read_text(digits, piece).ok_or(LineFault::BadHex)?))
-        }
-        (Word::Table, Operands::One(name)) => Ok(Entry::Table(place(names, name)?)),
         _ => Err(LineFault::WordCount),
     }
 }
