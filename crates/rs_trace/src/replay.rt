@@ -1,12 +1,12 @@
 //! Plays a recorded session through the core.
 
-ghost use Rattle.std.specs.Prelude.{◌≡◌, ◌<◌, ◌≤◌, [], ◌∷◌, length, IfOk};
+ghost use Rattle.std.specs.Prelude.{◌≡◌, ◌<◌, ◌≤◌, false, [], ◌∷◌, length, IfOk};
 ghost use Rattle.rs_policy.specs.Configuration.{Configuration};
 ghost use Rattle.rs_core.specs.Core.{client_count};
 ghost use Rattle.rs_core.specs.Run.Moves.{Ruled};
 ghost use Rattle.rs_core.specs.Run.Agreeing.{Agrees};
 ghost use Rattle.rs_trace.specs.Played.{failures_read, failures_written};
-ghost use Rattle.rs_trace.specs.Replays.{HasPlayed, IsAtFirst, PlaysTo, end_of};
+ghost use Rattle.rs_trace.specs.Replays.{AreNamesOf, HasPlayed, IsAtFirst, PlaysTo, end_of};
 ghost use Rattle.rs_trace.specs.Through.{PlaysThrough, answer_of};
 
 use crate::fault::{ReplayFault, Stop};
@@ -18,7 +18,7 @@ use crate::text::{TextIn, TextOut};
 use rs_core::{Core, drive_with};
 use rs_policy::Config;
 use rs_workers::Free;
-use std::alloc::Global;
+use std::alloc::{AllocError, Global};
 use std::sync::Wait;
 use std::thread::Threads;
 
@@ -64,6 +64,29 @@ pub struct Played {
     pub core: Core,
 }
 
+/// What is there before a trace is played.
+#[derive(Drop)]
+struct Beginning {
+    names: Names,
+    kept: Kept,
+    core: Core,
+}
+
+/// Makes what is there before a trace is played.
+fn begin(alloc: Global, config: Config) -> Result<Beginning, AllocError>
+    ensures names { IfOk result (λ begun. AreNamesOf begun.names config) }
+    ensures kept { IfOk result (λ begun. AreNamesOf begun.kept.names config) }
+    ensures fresh { IfOk result (λ begun. (begun.kept.lines.lines.rest ≡ []) × (begun.kept.lines.lines.is_over ≡ false) × (begun.kept.lines.text.items ≡ [])) }
+    ensures count { IfOk result (λ begun. client_count begun.core ≡ length config.clients) }
+    ensures agrees { IfOk result (λ begun. Agrees begun.core (Ruled config ∷ [])) }
+{
+    Ok(Beginning {
+        names: Names::new(alloc, &config)?,
+        kept: Kept::new(alloc, &config)?,
+        core: Core::new(alloc, config)?,
+    })
+}
+
 /// Plays a trace as `replay` does, and answers what is there then.
 pub fn play_through<T: Threads + Wait + Sync, R: TextIn, W: TextOut, P: Watch>(
     means: &Means<'_, T>,
@@ -79,15 +102,14 @@ pub fn play_through<T: Threads + Wait + Sync, R: TextIn, W: TextOut, P: Watch>(
     ensures writes { W.failures writer.new ≡ failures_written (end_of (answer_of result)) (W.failures writer.old) }
 {
     let alloc = means.alloc;
-    let Ok(names) = Names::new(alloc, &config) else {
+    let Ok(begun) = begin(alloc, config) else {
         return Err(ReplayFault::Memory);
     };
-    let Ok(mut kept) = Kept::new(alloc, &config) else {
-        return Err(ReplayFault::Memory);
-    };
-    let Ok(mut core) = Core::new(alloc, config) else {
-        return Err(ReplayFault::Memory);
-    };
+    let Beginning {
+        names,
+        mut kept,
+        mut core,
+    } = begun;
     let mut recording = Recording::new(alloc, &mut kept, reader, writer, watch);
     match play_on(means.rt, alloc, means.workers, &mut core, &mut recording) {
         Ok(()) => Ok(Played { names, core }),

@@ -24,11 +24,11 @@ returns-in-Ok-play_on-clause-played g c =
     let last = c.play_on.new.recording in
     let reads = c.play_on.ensures.reader ∙ c.new-recording.ensures.reader in
     let writes = c.play_on.ensures.writer ∙ c.new-recording.ensures.writer in
-    let named : AreNamesOf made.names.now c.args.config = subst (λ ns. AreNamesOf ns c.args.config) (sym c.new-recording.ensures.names) c.in-Ok-new.ensures.names in
+    let named : AreNamesOf made.names.now c.args.config = subst (λ ns. AreNamesOf ns c.args.config) (sym c.new-recording.ensures.names) c.in-Ok.ensures.kept in
     let out : PlaysOut c.args.config g.R.TextIn.takes g.R.TextIn.at_end g.W.TextOut.puts made.names.now first to last.reader.now last.writer.now (Ok tt) =
     subst (λ a. PlaysOut c.args.config g.R.TextIn.takes g.R.TextIn.at_end g.W.TextOut.puts made.names.now a to last.reader.now last.writer.now (Ok tt)) c.new-recording.ensures.given
     (subst (λ b. PlaysOut c.args.config g.R.TextIn.takes g.R.TextIn.at_end g.W.TextOut.puts made.names.now made.reader.now b last.reader.now last.writer.now (Ok tt)) c.new-recording.ensures.lent
-    (c.in-Ok-play_on.ensures.played c.args.config c.in-Ok-new-2.ensures.count c.in-Ok-new-2.ensures.agrees).out) in
+    (c.in-Ok-play_on.ensures.played c.args.config c.in-Ok.ensures.count c.in-Ok.ensures.agrees).out) in
     let played : IsPlayed c.args.config (λ text. g.R.TextIn.takes first text last.reader.now) (g.R.TextIn.at_end last.reader.now) (λ octets. g.W.TextOut.puts to octets last.writer.now) (Ok tt) =
     played_out g.R.TextIn.takes g.R.TextIn.at_end g.W.TextOut.puts c.args.config made.names.now first to last.reader.now last.writer.now (Ok tt) named out in
     inl (played_at g.R.TextIn.takes g.R.TextIn.at_end g.W.TextOut.puts c.args.config first to (Ok tt) last.reader.now _ last.writer.now _ (search rules) (search rules) played)
@@ -45,11 +45,11 @@ returns-in-Ok-play_on-clause-through g c =
     let plays : PlaysTo c.args.config g.R.TextIn.takes g.R.TextIn.at_end g.W.TextOut.puts made.names.now first to last.reader.now last.writer.now core (Ok tt) =
     subst (λ a. PlaysTo c.args.config g.R.TextIn.takes g.R.TextIn.at_end g.W.TextOut.puts made.names.now a to last.reader.now last.writer.now core (Ok tt)) c.new-recording.ensures.given
     (subst (λ b. PlaysTo c.args.config g.R.TextIn.takes g.R.TextIn.at_end g.W.TextOut.puts made.names.now made.reader.now b last.reader.now last.writer.now core (Ok tt)) c.new-recording.ensures.lent
-    (c.in-Ok-play_on.ensures.played c.args.config c.in-Ok-new-2.ensures.count c.in-Ok-new-2.ensures.agrees)) in
+    (c.in-Ok-play_on.ensures.played c.args.config c.in-Ok.ensures.count c.in-Ok.ensures.agrees)) in
     record {
       names = made.names.now;
-      named = subst (λ ns. AreNamesOf ns c.args.config) (sym c.new-recording.ensures.names) c.in-Ok-new.ensures.names;
-      told = c.in-Ok.ensures;
+      named = subst (λ ns. AreNamesOf ns c.args.config) (sym c.new-recording.ensures.names) c.in-Ok.ensures.kept;
+      told = c.in-Ok.ensures.names;
       plays = plays_at g.R.TextIn.takes g.R.TextIn.at_end g.W.TextOut.puts c.args.config made.names.now first to core (Ok tt) last.reader.now _ last.writer.now _ (search rules) (search rules) plays;
     }
 
@@ -62,11 +62,11 @@ returns-in-Err-clause-played g c =
     let answer : Result (Unit {0}) ReplayFault = Err c.in-Err.fault in
     let reads = c.play_on.ensures.reader ∙ c.new-recording.ensures.reader in
     let writes = c.play_on.ensures.writer ∙ c.new-recording.ensures.writer in
-    let named : AreNamesOf made.names.now c.args.config = subst (λ ns. AreNamesOf ns c.args.config) (sym c.new-recording.ensures.names) c.in-Ok-new.ensures.names in
+    let named : AreNamesOf made.names.now c.args.config = subst (λ ns. AreNamesOf ns c.args.config) (sym c.new-recording.ensures.names) c.in-Ok.ensures.kept in
     let out : PlaysOut c.args.config g.R.TextIn.takes g.R.TextIn.at_end g.W.TextOut.puts made.names.now first to last.reader.now last.writer.now answer =
     subst (λ a. PlaysOut c.args.config g.R.TextIn.takes g.R.TextIn.at_end g.W.TextOut.puts made.names.now a to last.reader.now last.writer.now answer) c.new-recording.ensures.given
     (subst (λ b. PlaysOut c.args.config g.R.TextIn.takes g.R.TextIn.at_end g.W.TextOut.puts made.names.now made.reader.now b last.reader.now last.writer.now answer) c.new-recording.ensures.lent
-    (c.in-Err.ensures.played c.args.config c.in-Ok-new-2.ensures.count c.in-Ok-new-2.ensures.agrees).out) in
+    (c.in-Err.ensures.played c.args.config c.in-Ok.ensures.count c.in-Ok.ensures.agrees).out) in
     let played : IsPlayed c.args.config (λ text. g.R.TextIn.takes first text last.reader.now) (g.R.TextIn.at_end last.reader.now) (λ octets. g.W.TextOut.puts to octets last.writer.now) answer =
     played_out g.R.TextIn.takes g.R.TextIn.at_end g.W.TextOut.puts c.args.config made.names.now first to last.reader.now last.writer.now answer named out in
     inl (played_at g.R.TextIn.takes g.R.TextIn.at_end g.W.TextOut.puts c.args.config first to answer last.reader.now _ last.writer.now _ (search rules) (search rules) played)
