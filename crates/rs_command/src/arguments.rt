@@ -1,96 +1,121 @@
 //! The options of a command line as rows of a table, and the words that were given by their names.
 
 use crate::version::VERSION;
-use clap::{Arg, ArgAction, ArgMatches, Command, value_parser};
+use clap::builder::ValueParser;
+use clap::{Arg, ArgAction, ArgMatches, Command};
 use std::alloc::{AllocError, Global};
-
-/// What stands behind the name of an option.
-#[derive(Clone, Copy)]
-pub(crate) enum Takes {
-    /// Nothing: the option is there or not.
-    Nothing,
-    /// A number from 1 to this one.
-    Number(u32),
-    /// A word, which the help calls so.
-    Word(&'static str),
-    /// One of these words.
-    OneOf(&'static str, &'static [&'static str]),
-    /// A word each time; the option may be given more than once.
-    Words(&'static str),
-}
-
-/// What else holds for an option.
-#[derive(Clone, Copy)]
-pub(crate) enum Rule {
-    /// It has this letter too, as `-c`.
-    Letter(char),
-    /// It has to be there.
-    Required,
-    /// It has to be there where this one isn't.
-    RequiredWithout(&'static str),
-    /// It stands beside this one alone.
-    Needs(&'static str),
-    /// It doesn't stand beside this one.
-    Excludes(&'static str),
-    /// Without the option this word is taken.
-    Default(&'static str),
-    /// Where no word stands behind it this one is taken.
-    DefaultWord(&'static str),
-}
 
 /// An option, `--name`, as the help lists it.
 #[derive(Clone, Copy)]
 pub(crate) struct Row {
     pub(crate) name: &'static str,
-    pub(crate) takes: Takes,
-    pub(crate) rules: &'static [Rule],
+    /// It has this letter too, as `-c`.
+    pub(crate) letter: Option<char>,
     pub(crate) help: &'static str,
+    /// What the help calls the word behind the name; nothing where none stands there.
+    pub(crate) word: &'static [&'static str],
+    /// How many such words there are, at least and at most.
+    pub(crate) count: (usize, usize),
+    /// What such a word has to be.
+    pub(crate) parser: ValueParser<'static>,
+    /// What is kept of the words where the option is given.
+    pub(crate) action: ArgAction,
+    /// It has to be there.
+    pub(crate) is_required: bool,
+    /// It has to be there where none of these is.
+    pub(crate) required_without: &'static [&'static str],
+    /// It stands beside these alone.
+    pub(crate) needs: &'static [&'static str],
+    /// It stands beside none of these.
+    pub(crate) excludes: &'static [&'static str],
+    /// Without the option these words are taken.
+    pub(crate) default: &'static [&'static str],
+    /// Where no word stands behind it these are taken.
+    pub(crate) default_word: &'static [&'static str],
 }
+
+/// An option without a word, which is there or not.
+pub(crate) const FLAG: Row = Row {
+    name: "",
+    letter: None,
+    help: "",
+    word: &[],
+    count: (0, 0),
+    parser: ValueParser::Bool,
+    action: ArgAction::SetTrue,
+    is_required: false,
+    required_without: &[],
+    needs: &[],
+    excludes: &[],
+    default: &[],
+    default_word: &[],
+};
+
+/// An option with a word.
+pub(crate) const WORD: Row = Row {
+    word: &["FILE"],
+    count: (1, 1),
+    parser: ValueParser::String,
+    action: ArgAction::Set,
+    ..FLAG
+};
+
+/// An option with a number from 1 on.
+pub(crate) const NUMBER: Row = Row {
+    word: &["N"],
+    parser: ValueParser::Signed(1, 4_294_967_295),
+    ..WORD
+};
+
+/// An option with a word each time; it may be given more than once.
+pub(crate) const WORDS: Row = Row {
+    action: ArgAction::Append,
+    ..WORD
+};
 
 /// The files of the configuration.
 pub(crate) const CONFIG: Row = Row {
     name: "config",
-    takes: Takes::Words("FILE"),
-    rules: &[],
+    letter: Some('c'),
     help: "the configuration, a TOML file; the texts of several are joined in their order",
+    ..WORDS
 };
 
-/// The argument with what it takes.
-fn taking<'a>(argument: Arg<'a>, takes: Takes) -> Arg<'a> {
-    match takes {
-        Takes::Nothing => argument.action(ArgAction::SetTrue),
-        Takes::Number(greatest) => argument
-            .value_name("N")
-            .value_parser(value_parser!(u32).range(1..=i64::from(greatest))),
-        Takes::Word(name) => argument.value_name(name),
-        Takes::OneOf(name, words) => argument.value_name(name).value_parser(words),
-        Takes::Words(name) => argument.value_name(name).action(ArgAction::Append),
-    }
-}
-
-/// The argument for which a rule holds too.
-fn ruled<'a>(argument: Arg<'a>, rule: Rule) -> Result<Arg<'a>, AllocError> {
-    match rule {
-        Rule::Letter(letter) => Ok(argument.short(letter)),
-        Rule::Required => Ok(argument.required(true)),
-        Rule::RequiredWithout(name) => argument.required_unless_present(name),
-        Rule::Needs(name) => argument.requires_arg(name),
-        Rule::Excludes(name) => argument.conflicts_with(name),
-        Rule::Default(word) => Ok(argument.default_value(word)),
-        Rule::DefaultWord(word) => Ok(argument.num_args(0..=1).default_missing_value(word)),
+/// The argument with a letter, where it has one.
+fn lettered<'a>(argument: Arg<'a>, letter: Option<char>) -> Arg<'a> {
+    match letter {
+        None => argument,
+        Some(letter) => argument.short(letter),
     }
 }
 
 impl Row {
     /// The argument that it asks for.
     fn argument<'a>(&self, alloc: Global) -> Result<Arg<'a>, AllocError> {
-        let argument = Arg::new(alloc, self.name).long(self.name).help(self.help);
-        let mut argument = taking(argument, self.takes);
-        for rule in self.rules {
-            argument = ruled(argument, *rule)?;
-        }
-        Ok(argument)
+        let argument = Arg::new(alloc, self.name)
+            .long(self.name)
+            .help(self.help)
+            .value_names(self.word)
+            .num_args(self.count.0..=self.count.1)
+            .value_parser(self.parser)
+            .action(self.action)
+            .required(self.is_required)
+            .default_values(self.default)
+            .default_missing_values(self.default_word);
+        lettered(argument, self.letter)
+            .required_unless_present_any(self.required_without)?
+            .requires_all(self.needs)?
+            .conflicts_with_all(self.excludes)
     }
+}
+
+/// The arguments that these options ask for.
+fn arguments_of<'a>(alloc: Global, rows: &[Row]) -> Result<Vec<Arg<'a>>, AllocError> {
+    let mut arguments = Vec::new(alloc);
+    for row in rows {
+        arguments.push(row.argument(alloc)?)?;
+    }
+    Ok(arguments)
 }
 
 /// The command line of a program that has these options.
@@ -100,10 +125,7 @@ pub(crate) fn command_of<'a>(
     about: &'a str,
     rows: &[Row],
 ) -> Result<Command<'a>, AllocError> {
-    let mut arguments = Vec::new(alloc);
-    for row in rows {
-        arguments.push(row.argument(alloc)?)?;
-    }
+    let arguments = arguments_of(alloc, rows)?;
     Command::new(alloc, name)
         .version(VERSION)
         .about(about)

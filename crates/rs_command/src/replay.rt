@@ -1,7 +1,8 @@
 //! The command line of rs_replay.
 
-use crate::arguments::{CONFIG, Row, Rule, Takes, command_of, text_of, texts_of};
+use crate::arguments::{CONFIG, FLAG, NUMBER, Row, WORD, WORDS, command_of, text_of, texts_of};
 use crate::asked::CommandLine;
+use clap::builder::ValueParser;
 use clap::{ArgMatches, Command};
 use std::alloc::{AllocError, Global};
 
@@ -23,40 +24,38 @@ pub struct Options {
 }
 
 /// The options, as the help lists them.
-const ROWS: [Row; 6] = [
+static ROWS: [Row; 6] = [
     Row {
-        rules: &[Rule::Letter('c'), Rule::Required],
+        is_required: true,
         ..CONFIG
     },
     Row {
         name: "workers",
-        takes: Takes::Number(16),
-        rules: &[Rule::Default("1")],
         help: "how many workers share the work of a turn, 1 to 16",
+        parser: ValueParser::Signed(1, 16),
+        default: &["1"],
+        ..NUMBER
     },
     Row {
         name: "progress",
-        takes: Takes::Nothing,
-        rules: &[],
         help: "print on standard error, where it is a terminal, how many lines were read and UPDATEs heard, and how much is left of a file",
+        ..FLAG
     },
     Row {
         name: "compare",
-        takes: Takes::Word("FILE"),
-        rules: &[],
         help: "hold what another server sent, as this file says, against what is due at the end",
+        ..WORD
     },
     Row {
         name: "until",
-        takes: Takes::Number(u32::MAX),
-        rules: &[],
         help: "play only the first N lines",
+        ..NUMBER
     },
     Row {
         name: "table",
-        takes: Takes::Words("NAME"),
-        rules: &[],
         help: "list the routes of this client at the end; may be given more than once",
+        word: &["NAME"],
+        ..WORDS
     },
 ];
 

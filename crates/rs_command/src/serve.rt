@@ -1,7 +1,8 @@
 //! The command line of rs_served.
 
-use crate::arguments::{CONFIG, Row, Rule, Takes, command_of, text_of, texts_of};
+use crate::arguments::{CONFIG, FLAG, NUMBER, Row, WORD, command_of, text_of, texts_of};
 use crate::asked::CommandLine;
+use clap::builder::ValueParser;
 use clap::{ArgMatches, Command};
 use std::alloc::{AllocError, Global};
 
@@ -57,76 +58,77 @@ fn level_of(name: Option<&str>) -> Option<LogLevel> {
 }
 
 /// The options, as the help lists them.
-const ROWS: [Row; 12] = [
+static ROWS: [Row; 12] = [
     Row {
-        rules: &[Rule::Letter('c'), Rule::RequiredWithout("ask")],
+        required_without: &["ask"],
         ..CONFIG
     },
     Row {
         name: "workers",
-        takes: Takes::Number(16),
-        rules: &[],
         help: "how many threads decide where much has changed, 1 to 16 (1 if missing)",
+        parser: ValueParser::Signed(1, 16),
+        ..NUMBER
     },
     Row {
         name: "sessions",
-        takes: Takes::Number(u32::MAX),
-        rules: &[],
         help: "end once so many sessions have ended",
+        ..NUMBER
     },
     Row {
         name: "reload",
-        takes: Takes::Number(65535),
-        rules: &[],
         help: "read the configuration again every N rounds, and use its rules where they are good",
+        parser: ValueParser::Signed(1, 65535),
+        ..NUMBER
     },
     Row {
         name: "window",
-        takes: Takes::Word("ADDRESS:PORT"),
-        rules: &[],
         help: "show the server over HTTP there, as at 127.0.0.1:8080, to read alone",
+        word: &["ADDRESS:PORT"],
+        ..WORD
     },
     Row {
         name: "control",
-        takes: Takes::Word("PATH"),
-        rules: &[],
         help: "take commands at this Unix socket, which the server makes",
+        word: &["PATH"],
+        ..WORD
     },
     Row {
         name: "ask",
-        takes: Takes::Word("COMMAND"),
-        rules: &[Rule::Excludes("config"), Rule::Needs("control")],
         help: "ask the server whose control socket it is, in place of serving: help lists the commands",
+        word: &["COMMAND"],
+        excludes: &["config"],
+        needs: &["control"],
+        ..WORD
     },
     Row {
         name: "log",
-        takes: Takes::OneOf("LEVEL", LEVELS),
-        rules: &[Rule::DefaultWord("route")],
         help: "print on standard error what happens, and why: what goes wrong, what changes too, or all",
+        word: &["LEVEL"],
+        count: (0, 1),
+        parser: ValueParser::Names(LEVELS),
+        default_word: &["route"],
+        ..WORD
     },
     Row {
         name: "utc",
-        takes: Takes::Nothing,
-        rules: &[],
         help: "begin these lines with the time of day, in place of the seconds since the start",
+        ..FLAG
     },
     Row {
         name: "record",
-        takes: Takes::Word("FILE"),
-        rules: &[],
         help: "record the run for rs_replay in FILE, and the configuration in FILE.toml, which must not be there",
+        ..WORD
     },
     Row {
         name: "record-size",
-        takes: Takes::Number(u32::MAX),
-        rules: &[Rule::Needs("record")],
         help: "begin FILE.1, FILE.2 and so on, each behind N MiB",
+        needs: &["record"],
+        ..NUMBER
     },
     Row {
         name: "check",
-        takes: Takes::Nothing,
-        rules: &[],
         help: "only read the configuration, and say whether it is good",
+        ..FLAG
     },
 ];
 
