@@ -3,7 +3,7 @@
 use crate::files::{Files, Position, Source};
 use crate::find::{Spot, Step};
 use crate::forms::{form, strangers, uses_others};
-use crate::place::{entries_at, spot, steps_to, steps_to_table, value_at};
+use crate::place::{entries_of, spot, steps_to, steps_to_key, steps_to_table, value_at};
 use rs_policy::{ConfigFault, Key, Place, Table, known_keys};
 use std::alloc::{AllocError, Global};
 use std::fmt;
@@ -106,13 +106,17 @@ fn is_same(a: Option<&Value>, b: Option<&Value>) -> bool {
     }
 }
 
+/// Whether two tables have the same values at these keys.
+fn agree_at(keys: &[&str], a: &Value, b: &Value) -> bool {
+    keys.iter().all(|key| is_same(a.get(*key), b.get(*key)))
+}
+
 /// The number of the first table of an array that has the same values at these keys as this one.
 fn earlier(tables: &[Value], number: usize, keys: &[&str]) -> Option<usize> {
-    let own = tables.get(number.checked_sub(1)?)?;
-    let same = tables.iter().position(|table| keys
-        .iter()
-        .all(|key| is_same(table.get(*key), own.get(*key))))?;
-    if same < number.saturating_sub(1) {
+    let index = number.checked_sub(1)?;
+    let own = tables.get(index)?;
+    let same = tables.iter().position(|table| agree_at(keys, table, own))?;
+    if same < index {
         Some(same.saturating_add(1))
     } else {
         None
@@ -164,22 +168,26 @@ impl<'a> Parsed<'a> {
         }
     }
 
+    /// Where a key of a table stands, or the table where there is no key.
+    fn key(
+        &self,
+        alloc: Global,
+        table: Table,
+        key: Option<&&str>,
+    ) -> Result<Position<'a>, AllocError> {
+        match key {
+            None => self.table(alloc, table),
+            Some(key) => position_of(alloc, self.source, &steps_to_key(alloc, table, key)?),
+        }
+    }
+
     /// The keys of a table that it may not have, and those that it may.
     fn unknown_line(&self, alloc: Global, table: Table) -> Result<String, AllocError> {
-        let mut steps = steps_to_table(alloc, table)?;
-        let entries = entries_at(self.document, &steps);
+        let entries = entries_of(alloc, self.document, table)?;
         let strangers = strangers(alloc, table, entries)?;
-        if let Some(first) = strangers.first() {
-            steps.push(Step::Key(first))?;
-        }
-        let at = position_of(alloc, self.source, &steps)?;
-        let unknown = spaced(alloc, &strangers)?;
+        let at = self.key(alloc, table, strangers.first())?;
         let known = known_keys(table, uses_others(entries));
-        format!(in alloc;
-            "{at}not known here:{}; known:{}",
-            Shown(unknown.as_str()),
-            Keys(known)
-        )
+        strangers_line(alloc, at, &strangers, known)
     }
 
     /// What is missing in a table, and its form.
@@ -192,10 +200,7 @@ impl<'a> Parsed<'a> {
     fn many_line(&self, alloc: Global, place: &Place) -> Result<String, AllocError> {
         let steps = steps_to(alloc, place)?;
         let at = position_of(alloc, self.source, &steps)?;
-        let count = match value_at(self.document, &steps).and_then(|value| value.as_array()) {
-            None => 0,
-            Some(values) => values.len(),
-        };
+        let count = length_of(value_at(self.document, &steps));
         format!(in alloc;
             "{at}{} has {count}; expected: {}",
             place.key.text(),
@@ -215,6 +220,22 @@ impl<'a> Parsed<'a> {
     }
 }
 
+/// How many values an array has; none where there is no array.
+fn length_of(array: Option<&Value>) -> usize {
+    match array {
+        Some(Value::Array(values)) => values.len(),
+        _ => 0,
+    }
+}
+
+/// What stands before the value at a place in its line: its key, but for an entry of a list.
+fn lead(place: &Place) -> (&'static str, &'static str) {
+    match place.table {
+        Table::Entry(_, _) => ("", ""),
+        _ => (place.key.text(), " = "),
+    }
+}
+
 /// What stands at a place, and the form that is expected there.
 fn expected_line(
     alloc: Global,
@@ -222,11 +243,12 @@ fn expected_line(
     place: &Place,
     value: &str,
 ) -> Result<String, AllocError> {
-    let (value, form) = (Shown(value), form(place));
-    match place.table {
-        Table::Entry(_, _) => format!(in alloc; "{at}{value}; expected: {form}"),
-        _ => format!(in alloc; "{at}{} = {value}; expected: {form}", place.key.text()),
-    }
+    let (key, equals) = lead(place);
+    format!(in alloc;
+        "{at}{key}{equals}{}; expected: {}",
+        Shown(value),
+        form(place)
+    )
 }
 
 /// Texts, a space before each.
@@ -237,6 +259,21 @@ fn spaced(alloc: Global, texts: &[&str]) -> Result<String, AllocError> {
         line.push_str(text)?;
     }
     Ok(line)
+}
+
+/// The keys that a table may not have, and those that it may.
+fn strangers_line(
+    alloc: Global,
+    at: Position<'_>,
+    strangers: &[&str],
+    known: &[Key],
+) -> Result<String, AllocError> {
+    let unknown = spaced(alloc, strangers)?;
+    format!(in alloc;
+        "{at}not known here:{}; known:{}",
+        Shown(unknown.as_str()),
+        Keys(known)
+    )
 }
 
 /// The line about a fault of a text that is a document.

@@ -2,7 +2,7 @@
 
 use crate::find::{Spot, Step};
 use crate::forms::strangers;
-use crate::place::{entries_at, found, steps_to, steps_to_table, with};
+use crate::place::{entries_of, found, steps_to, steps_to_key, steps_to_table, with};
 use rs_policy::{ConfigFault, Key, Place, Table};
 use std::alloc::{AllocError, Global};
 use toml::value::Value;
@@ -54,6 +54,39 @@ fn replaced(
     }
 }
 
+/// Where a pair of a key and a value has room in a table, and what stands before and behind it there.
+#[derive(Clone, Copy)]
+struct Room {
+    front: usize,
+    before: &'static str,
+    behind: &'static str,
+}
+
+/// The room in a table; None where it isn't found.
+fn room_in(alloc: Global, text: &str, table: Table) -> Result<Option<Room>, AllocError> {
+    if table == Table::Top {
+        return Ok(Some(Room {
+            front: 0,
+            before: "",
+            behind: "\n",
+        }));
+    }
+    let steps = steps_to_table(alloc, table)?;
+    match found(alloc, text, &steps)? {
+        Some(Spot::Header { stop, .. }) => Ok(Some(Room {
+            front: stop,
+            before: "\n",
+            behind: "\n",
+        })),
+        Some(Spot::Value { start, .. }) => Ok(Some(Room {
+            front: start.saturating_add(1),
+            before: "",
+            behind: ", ",
+        })),
+        None => Ok(None),
+    }
+}
+
 /// The text with a pair of a key and a value more in a table.
 fn inserted(
     alloc: Global,
@@ -62,30 +95,12 @@ fn inserted(
     key: Key,
     value: &str,
 ) -> Result<Option<String>, AllocError> {
-    let key = key.text();
-    if table == Table::Top {
-        let pair = format!(in alloc; "{key} = {value}\n")?;
-        return with(alloc, text, 0, 0, pair.as_str());
-    }
-    let steps = steps_to_table(alloc, table)?;
-    match found(alloc, text, &steps)? {
-        Some(Spot::Header { stop, .. }) => {
-            let pair = format!(in alloc; "\n{key} = {value}\n")?;
-            with(alloc, text, stop, stop, pair.as_str())
-        }
-        Some(
-            Spot::Value {
-                key: _,
-                start,
-                stop: _,
-            },
-        ) => {
-            let inside = start.saturating_add(1);
-            let pair = format!(in alloc; "{key} = {value}, ")?;
-            with(alloc, text, inside, inside, pair.as_str())
-        }
-        None => Ok(None),
-    }
+    let Some(room) = room_in(alloc, text, table)? else {
+        return Ok(None);
+    };
+    let (before, behind) = (room.before, room.behind);
+    let pair = format!(in alloc; "{before}{} = {value}{behind}", key.text())?;
+    with(alloc, text, room.front, room.front, pair.as_str())
 }
 
 /// The number of a table among its like, or of an entry of a list.
@@ -132,13 +147,12 @@ fn without_stranger(
     document: &Value,
     table: Table,
 ) -> Result<Option<String>, AllocError> {
-    let mut steps = steps_to_table(alloc, table)?;
-    let strangers = strangers(alloc, table, entries_at(document, &steps))?;
-    let Some(first) = strangers.first() else {
-        return Ok(None);
-    };
-    steps.push(Step::Key(first))?;
-    without(alloc, text, &steps)
+    let entries = entries_of(alloc, document, table)?;
+    let strangers = strangers(alloc, table, entries)?;
+    match strangers.first() {
+        None => Ok(None),
+        Some(first) => without(alloc, text, &steps_to_key(alloc, table, first)?),
+    }
 }
 
 /// The text with the value at a place mended, or without it.

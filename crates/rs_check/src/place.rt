@@ -56,12 +56,22 @@ pub(crate) fn steps_to_table<'a>(alloc: Global, table: Table) -> Result<Vec<Step
     Ok(steps)
 }
 
+/// The steps to the value at a key of a table.
+pub(crate) fn steps_to_key<'a>(
+    alloc: Global,
+    table: Table,
+    key: &'a str,
+) -> Result<Vec<Step<'a>>, AllocError> {
+    let mut steps = steps_to_table(alloc, table)?;
+    steps.push(Step::Key(key))?;
+    Ok(steps)
+}
+
 /// The steps to the value at a place.
 pub(crate) fn steps_to<'a>(alloc: Global, place: &Place) -> Result<Vec<Step<'a>>, AllocError> {
-    let mut steps = steps_to_table(alloc, place.table)?;
-    match place.table {
-        Table::Entry(_, entry) => go_on(&mut steps, place.key, entry)?,
-        _ => steps.push(Step::Key(place.key.text()))?,
+    let mut steps = steps_to_key(alloc, place.table, place.key.text())?;
+    if let Table::Entry(_, entry) = place.table {
+        steps.push(Step::Item(entry.saturating_sub(1)))?;
     }
     Ok(steps)
 }
@@ -85,9 +95,17 @@ pub(crate) fn value_at<'d>(document: &'d Value, steps: &[Step<'_>]) -> Option<&'
     }
 }
 
-/// The content of the table of a document that some steps lead to.
-pub(crate) fn entries_at<'d>(document: &'d Value, steps: &[Step<'_>]) -> Option<&'d toml::Table> {
-    value_at(document, steps)?.as_table()
+/// The content of a table of a document.
+pub(crate) fn entries_of<'d>(
+    alloc: Global,
+    document: &'d Value,
+    table: Table,
+) -> Result<Option<&'d toml::Table>, AllocError> {
+    let steps = steps_to_table(alloc, table)?;
+    match value_at(document, &steps) {
+        None => Ok(None),
+        Some(value) => Ok(value.as_table()),
+    }
 }
 
 /// A text with another in place of some octets; None where they aren't whole characters.

@@ -97,11 +97,21 @@ impl Warning {
     }
 }
 
+/// The text at a key of a table.
+fn text_at<'d>(table: &'d Value, key: &str) -> Option<&'d str> {
+    table.get(key)?.as_str()
+}
+
+/// The integer at a key of a table.
+fn integer_at(table: &Value, key: &str) -> Option<i64> {
+    table.get(key)?.as_integer()
+}
+
 /// The values of an array at a key of a table; none where there is no array.
 fn values_at(table: &Value, key: Key) -> &[Value] {
-    match table.get(key.text()).and_then(|value| value.as_array()) {
-        None => &[],
-        Some(values) => values,
+    match table.get(key.text()) {
+        Some(Value::Array(values)) => values,
+        _ => &[],
     }
 }
 
@@ -136,17 +146,11 @@ fn is_tested(rule: &Value) -> bool
 
 /// Whether the range of a rule takes every prefix.
 fn takes_every_prefix(rule: &Value) -> bool {
-    let is_any = rule
-        .get("prefix")
-        .and_then(|prefix| prefix.as_str())
-        .is_some_and(|text| text.ends_with("/0"));
-    let is_low = rule
-        .get("min")
-        .is_none_or(|min| min.as_integer() == Some(0));
-    let is_high = rule
-        .get("max")
-        .is_some_and(|max| max.as_integer() == Some(32));
-    is_any && is_low && is_high
+    let is_any = match text_at(rule, "prefix") {
+        Some(prefix) => prefix.ends_with("/0"),
+        None => false,
+    };
+    is_any && integer_at(rule, "min").unwrap_or(0) == 0 && integer_at(rule, "max") == Some(32)
 }
 
 /// Whether a rule matches every route.
@@ -161,7 +165,7 @@ fn matches_all(rule: &Value) -> bool
 
 /// The first rule behind one that matches every route, counted from 1.
 fn first_unreached(rules: &[Value]) -> Option<usize> {
-    let last = rules.iter().position(|rule| matches_all(rule))?;
+    let last = rules.iter().position(matches_all)?;
     let next = last.saturating_add(1);
     if next < rules.len() {
         Some(next.saturating_add(1))
@@ -177,20 +181,20 @@ const USES: [Key; 1] = [Key::Use];
 
 /// Whether a rule has this name at one of these keys.
 fn rule_names(rule: &Value, keys: &[Key], name: &str) -> bool {
-    keys.iter().any(|key| {
-        rule.get(key.text())
-            .and_then(|value| value.as_str())
-            .is_some_and(|text| text == name)
-    })
+    keys.iter()
+        .any(|key| text_at(rule, key.text()) == Some(name))
+}
+
+/// Whether one of these rules does.
+fn rules_name(rules: &[Value], keys: &[Key], name: &str) -> bool {
+    rules.iter().any(|rule| rule_names(rule, keys, name))
 }
 
 /// Whether a rule of a table's lists does.
 fn table_names(table: &Value, keys: &[Key], name: &str) -> bool {
-    [Key::Import, Key::Export, Key::Rules]
-        .iter()
-        .any(|list| values_at(table, *list)
-            .iter()
-            .any(|rule| rule_names(rule, keys, name)))
+    rules_name(values_at(table, Key::Import), keys, name)
+        || rules_name(values_at(table, Key::Export), keys, name)
+        || rules_name(values_at(table, Key::Rules), keys, name)
 }
 
 /// Whether a rule of one of these tables does.
@@ -200,10 +204,7 @@ fn are_named(tables: &[Value], keys: &[Key], name: &str) -> bool {
 
 /// The name of a table.
 fn name_of(table: &Value) -> &str {
-    match table.get("name").and_then(|name| name.as_str()) {
-        None => "",
-        Some(name) => name,
-    }
+    text_at(table, "name").unwrap_or("")
 }
 
 /// Adds a warning, where there aren't as many yet as are told.
