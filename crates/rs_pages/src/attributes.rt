@@ -83,6 +83,15 @@ fn put_path(text: &mut Vec<u8>, attrs: &Attrs, style: &Style) -> Result<bool, Al
     Ok(true)
 }
 
+/// Puts a community as its two numbers.
+fn put_community(text: &mut Vec<u8>, community: u32, style: &Style) -> Result<(), AllocError> {
+    text.extend_from_slice(style.open)?;
+    put_number(text, u64::from(community / 65536))?;
+    text.extend_from_slice(style.point)?;
+    put_number(text, u64::from(community % 65536))?;
+    text.extend_from_slice(style.close)
+}
+
 /// Puts the communities (RFC 1997), each as its two numbers; answers whether all were put.
 fn put_communities(text: &mut Vec<u8>, attrs: &Attrs, style: &Style) -> Result<bool, AllocError> {
     let mut count = 0;
@@ -91,11 +100,7 @@ fn put_communities(text: &mut Vec<u8>, attrs: &Attrs, style: &Style) -> Result<b
             return Ok(false);
         }
         style.put_between(text, count)?;
-        text.extend_from_slice(style.open)?;
-        put_number(text, u64::from(community / 65536))?;
-        text.extend_from_slice(style.point)?;
-        put_number(text, u64::from(community % 65536))?;
-        text.extend_from_slice(style.close)?;
+        put_community(text, community, style)?;
         count += 1;
     }
     Ok(true)
@@ -134,19 +139,25 @@ fn put_large_communities(
     Ok(true)
 }
 
-/// Puts the extended communities (RFC 4360), each as `generic` and its octets in two numbers; answers
-/// whether all were put.
+/// Puts an extended community, eight octets, as `generic` and its octets in two numbers.
+fn put_extended_community(text: &mut Vec<u8>, community: &[u8]) -> Result<(), AllocError>
+    requires { length community.now ≡ 8 }
+{
+    text.extend_from_slice(b"[\"generic\",\"")?;
+    put_hex(text, BigEndian::read_u32(&community[0..4]))?;
+    text.extend_from_slice(b"\",\"")?;
+    put_hex(text, BigEndian::read_u32(&community[4..8]))?;
+    text.extend_from_slice(b"\"]")
+}
+
+/// Puts the extended communities (RFC 4360); answers whether all were put.
 fn put_extended_communities(text: &mut Vec<u8>, value: &[u8]) -> Result<bool, AllocError> {
     for (index, community) in value.chunks_exact(8).enumerate() {
         if index >= MOST {
             return Ok(false);
         }
         JSON.put_between(text, index)?;
-        text.extend_from_slice(b"[\"generic\",\"")?;
-        put_hex(text, BigEndian::read_u32(&community[0..4]))?;
-        text.extend_from_slice(b"\",\"")?;
-        put_hex(text, BigEndian::read_u32(&community[4..8]))?;
-        text.extend_from_slice(b"\"]")?;
+        put_extended_community(text, community)?;
     }
     Ok(true)
 }
@@ -159,9 +170,10 @@ fn value(attrs: &Attrs, kind: u8) -> &[u8] {
     }
 }
 
-/// Puts the object `bgp`: ORIGIN, AS_PATH, NEXT_HOP, MULTI_EXIT_DISC, the preference, and communities.
-fn put_bgp(text: &mut Vec<u8>, attrs: &Attrs) -> Result<(), AllocError> {
-    text.extend_from_slice(b"{\"origin\":\"")?;
+/// Puts ORIGIN, AS_PATH, NEXT_HOP and MULTI_EXIT_DISC as members of an object; answers whether all of AS_PATH
+/// was put.
+fn put_path_members(text: &mut Vec<u8>, attrs: &Attrs) -> Result<bool, AllocError> {
+    text.extend_from_slice(b"\"origin\":\"")?;
     text.extend_from_slice(origin_name(attrs.origin().unwrap_or(2)))?;
     text.extend_from_slice(b"\",\"as_path\":[")?;
     let has_path = put_path(text, attrs, &JSON)?;
@@ -169,16 +181,32 @@ fn put_bgp(text: &mut Vec<u8>, attrs: &Attrs) -> Result<(), AllocError> {
     put_address(text, attrs.next_hop().unwrap_or(0))?;
     text.extend_from_slice(b"\",\"med\":\"")?;
     put_number(text, u64::from(attrs.med().unwrap_or(0)))?;
-    text.extend_from_slice(b"\",\"local_pref\":\"100\",\"communities\":[")?;
+    text.extend_from_slice(b"\"")?;
+    Ok(has_path)
+}
+
+/// Puts communities of each kind as members of an object; answers whether all were put.
+fn put_community_members(text: &mut Vec<u8>, attrs: &Attrs) -> Result<bool, AllocError> {
+    text.extend_from_slice(b"\"communities\":[")?;
     let has_communities = put_communities(text, attrs, &JSON)?;
     text.extend_from_slice(b"],\"large_communities\":[")?;
     let has_large = put_large_communities(text, value(attrs, LARGE_COMMUNITY), &JSON)?;
     text.extend_from_slice(b"],\"ext_communities\":[")?;
     let has_extended = put_extended_communities(text, value(attrs, EXTENDED_COMMUNITIES))?;
-    if has_path && has_communities && has_large && has_extended {
-        text.extend_from_slice(b"]}")
+    text.extend_from_slice(b"]")?;
+    Ok(has_communities && has_large && has_extended)
+}
+
+/// Puts the object `bgp`: ORIGIN, AS_PATH, NEXT_HOP, MULTI_EXIT_DISC, the preference, and communities.
+fn put_bgp(text: &mut Vec<u8>, attrs: &Attrs) -> Result<(), AllocError> {
+    text.extend_from_slice(b"{")?;
+    let has_path = put_path_members(text, attrs)?;
+    text.extend_from_slice(b",\"local_pref\":\"100\",")?;
+    let has_communities = put_community_members(text, attrs)?;
+    if has_path && has_communities {
+        text.extend_from_slice(b"}")
     } else {
-        text.extend_from_slice(b"],\"cut\":true}")
+        text.extend_from_slice(b",\"cut\":true}")
     }
 }
 
@@ -187,6 +215,17 @@ pub(crate) fn bgp_text(alloc: Global, attrs: &Attrs) -> Result<Vec<u8>, AllocErr
     let mut text = Vec::new(alloc);
     put_bgp(&mut text, attrs)?;
     Ok(text)
+}
+
+/// Puts communities and large communities as a cell has them; answers whether all were put.
+fn put_community_cell(text: &mut Vec<u8>, attrs: &Attrs) -> Result<bool, AllocError> {
+    let has_communities = put_communities(text, attrs, &PLAIN)?;
+    let large = value(attrs, LARGE_COMMUNITY);
+    if !large.is_empty() {
+        text.extend_from_slice(b" ")?;
+    }
+    let has_large = put_large_communities(text, large, &PLAIN)?;
+    Ok(has_communities && has_large)
 }
 
 /// Puts the cells of a row in HTML behind NEXT_HOP: AS_PATH, MULTI_EXIT_DISC, communities and large communities.
@@ -198,13 +237,8 @@ fn put_cells(text: &mut Vec<u8>, attrs: &Attrs) -> Result<(), AllocError> {
         put_number(text, u64::from(med))?;
     }
     text.extend_from_slice(b"<td>")?;
-    let has_communities = put_communities(text, attrs, &PLAIN)?;
-    let large = value(attrs, LARGE_COMMUNITY);
-    if !large.is_empty() {
-        text.extend_from_slice(b" ")?;
-    }
-    let has_large = put_large_communities(text, large, &PLAIN)?;
-    if has_path && has_communities && has_large {
+    let has_communities = put_community_cell(text, attrs)?;
+    if has_path && has_communities {
         Ok(())
     } else {
         text.extend_from_slice(b" ...")

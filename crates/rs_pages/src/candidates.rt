@@ -1,8 +1,11 @@
 //! What becomes of the routes for a prefix on their way to a member (RFC 4271, 9.1; RFC 7947, 2.3).
 
-ghost use Rattle.std.specs.Prelude.{◌≡◌, ◌<◌, ◌==◌, find, length, map, option_map, position, IfOk, IfSome};
+ghost use Rattle.std.specs.Prelude.{◌≡◌, ◌<◌, ◌==◌, ◌++◌, List, find, length, map, option_map, position, IfOk, IfSome, OnOk};
+ghost use Rattle.std.specs.List.{cons_option};
 ghost use Rattle.rs_decision.specs.Best.{HasDistinctPlaces};
-ghost use Rattle.rs_pages.specs.Candidates.{by_rank, has_server_as, is_too_long, next_candidate, next_holder, outcome_of, rank_to, rank_with, ranks_to, sent_outcome};
+ghost use Rattle.rs_decision.specs.declared.rank.Rank.{Rank};
+ghost use Rattle.rs_pages.specs.Candidates.{by_rank, has_server_as, is_too_long, next_candidate, next_holder, outcome_of, rank_to, rank_with, ranks_to, rising_from, sent_outcome};
+ghost use Rattle.rs_pages.specs.Counting.{AreBefore};
 ghost use Rattle.rs_pages.specs.Holders.{holding};
 
 use crate::tables::Holder;
@@ -24,7 +27,7 @@ pub(crate) struct Question<'a> {
 }
 
 /// What becomes of a route.
-#[derive(Clone, Copy, Debug, PartialEq, Eq)]
+#[derive(Clone, Copy)]
 pub(crate) enum Outcome {
     /// It is the member's own.
     Own,
@@ -120,6 +123,29 @@ fn rank_to(question: &Question<'_>, holder: &Holder<'_>) -> Option<Rank>
     }
 }
 
+/// Puts a rank behind the others, if there is one and its place is not before the next; answers the next place.
+pub(crate) fn push_rising(
+    ranks: &mut Vec<Rank>,
+    next: usize,
+    rank: Option<Rank>,
+) -> Result<usize, AllocError>
+    requires distinct { HasDistinctPlaces ranks.old.items }
+    requires before { AreBefore next ranks.old.items }
+    requires bound { IfSome rank (λ r. r.place < usize.MAX) }
+    ensures distinct { OnOk result (HasDistinctPlaces ranks.new.items) }
+    ensures before { IfOk result (λ behind. AreBefore behind ranks.new.items) }
+    ensures whole { IfOk result (λ behind. (rest : List Rank) → ranks.new.items ++ rising_from behind rest ≡ ranks.old.items ++ rising_from next (cons_option rank rest)) }
+{
+    let Some(rank) = rank else {
+        return Ok(next);
+    };
+    if rank.place < next {
+        return Ok(next);
+    }
+    ranks.push(rank)?;
+    Ok(rank.place + 1)
+}
+
 /// The ranks of all candidates.
 pub(crate) fn ranks_to(
     alloc: Global,
@@ -132,12 +158,7 @@ pub(crate) fn ranks_to(
     let mut ranks = Vec::new(alloc);
     let mut next = 0;
     for holder in holders {
-        if let Some(rank) = rank_to(question, holder) {
-            if rank.place >= next {
-                next = rank.place + 1;
-                ranks.push(rank)?;
-            }
-        }
+        next = push_rising(&mut ranks, next, rank_to(question, holder))?;
     }
     Ok(ranks)
 }

@@ -1,14 +1,11 @@
 //! Which member's route for a prefix is the best of those that import lists pass.
 
-ghost use Rattle.std.specs.Prelude.{◌≡◌, ◌<◌, ◌++◌, List, map, IfOk, IfSome, OnOk};
-ghost use Rattle.std.specs.List.{cons_option};
+ghost use Rattle.std.specs.Prelude.{◌≡◌, ◌<◌, map, IfOk, IfSome};
 ghost use Rattle.rs_decision.specs.Best.{HasDistinctPlaces};
-ghost use Rattle.rs_decision.specs.declared.rank.Rank.{Rank};
 ghost use Rattle.rs_pages.specs.Holders.{holding};
-ghost use Rattle.rs_pages.specs.Counting.{AreBefore, import_rank, import_ranks, is_preferred};
-ghost use Rattle.rs_pages.specs.Candidates.{rising_from};
+ghost use Rattle.rs_pages.specs.Counting.{import_rank, import_ranks, is_preferred};
 
-use crate::candidates::rank_with;
+use crate::candidates::{push_rising, rank_with};
 use crate::judging::is_accepted;
 use crate::tables::Holder;
 use rs_decision::{Rank, best};
@@ -29,25 +26,6 @@ fn import_rank(config: &Config, prefix: &Prefix, holder: &Holder<'_>) -> Option<
         return None;
     }
     Some(rank_with(config, holder, PREFERENCE))
-}
-
-/// Puts a rank behind the others, if there is one and its place is not before the next; answers the next place.
-fn push_rising(ranks: &mut Vec<Rank>, next: usize, rank: Option<Rank>) -> Result<usize, AllocError>
-    requires distinct { HasDistinctPlaces ranks.old.items }
-    requires before { AreBefore next ranks.old.items }
-    requires bound { IfSome rank (λ r. r.place < usize.MAX) }
-    ensures distinct { OnOk result (HasDistinctPlaces ranks.new.items) }
-    ensures before { IfOk result (λ behind. AreBefore behind ranks.new.items) }
-    ensures whole { IfOk result (λ behind. (rest : List Rank) → ranks.new.items ++ rising_from behind rest ≡ ranks.old.items ++ rising_from next (cons_option rank rest)) }
-{
-    let Some(rank) = rank else {
-        return Ok(next);
-    };
-    if rank.place < next {
-        return Ok(next);
-    }
-    ranks.push(rank)?;
-    Ok(rank.place + 1)
 }
 
 /// The ranks of the routes for a prefix that their import lists pass.

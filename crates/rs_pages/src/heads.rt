@@ -12,17 +12,39 @@ use std::alloc::{AllocError, Global};
 const VERSION: &[u8] = b"Tivrazel 0.1.0";
 
 impl<T: Tables> ServerPages<'_, T> {
+    /// Puts the time of day in this second since the start.
+    pub(crate) fn put_second(&self, text: &mut Vec<u8>, second: u64) -> Result<(), AllocError> {
+        put_time(text, self.alloc, self.moments.time(second))
+    }
+
     /// Puts what birdwatcher's answers begin with.
     pub(crate) fn put_api(&self, text: &mut Vec<u8>) -> Result<(), AllocError> {
-        let now = self.moments.time(self.moments.now);
+        let now = self.moments.now;
         text.extend_from_slice(b"{\"api\":{\"Version\":\"")?;
         text.extend_from_slice(VERSION)?;
         text.extend_from_slice(
             b"\",\"result_from_cache\":false,\"cache_status\":{\"cached_at\":{\"date\":\"",
         )?;
-        put_time(text, self.alloc, now)?;
+        self.put_second(text, now)?;
         text.extend_from_slice(b"\",\"timezone_type\":\"UTC\",\"timezone\":\"UTC\"}}},\"ttl\":\"")?;
-        put_time(text, self.alloc, now)?;
+        self.put_second(text, now)?;
+        text.extend_from_slice(b"\",")
+    }
+
+    /// Puts what those begin with that have a list, and how the list begins.
+    pub(crate) fn put_list(&self, text: &mut Vec<u8>, list: &[u8]) -> Result<(), AllocError> {
+        self.put_api(text)?;
+        text.extend_from_slice(list)
+    }
+
+    /// Puts the times of `/status`.
+    fn put_times(&self, text: &mut Vec<u8>) -> Result<(), AllocError> {
+        text.extend_from_slice(b"\"server_time\":\"")?;
+        self.put_second(text, self.moments.now)?;
+        text.extend_from_slice(b"\",\"last_reboot\":\"")?;
+        self.put_second(text, 0)?;
+        text.extend_from_slice(b"\",\"last_reconfig\":\"")?;
+        self.put_second(text, self.moments.rules)?;
         text.extend_from_slice(b"\",")
     }
 
@@ -31,13 +53,9 @@ impl<T: Tables> ServerPages<'_, T> {
         self.put_api(text)?;
         text.extend_from_slice(b"\"status\":{\"router_id\":\"")?;
         put_address(text, self.tables.config().identifier())?;
-        text.extend_from_slice(b"\",\"server_time\":\"")?;
-        put_time(text, self.alloc, self.moments.time(self.moments.now))?;
-        text.extend_from_slice(b"\",\"last_reboot\":\"")?;
-        put_time(text, self.alloc, self.moments.time(0))?;
-        text.extend_from_slice(b"\",\"last_reconfig\":\"")?;
-        put_time(text, self.alloc, self.moments.time(self.moments.rules))?;
-        text.extend_from_slice(b"\",\"message\":\"up and running\",\"version\":\"")?;
+        text.extend_from_slice(b"\",")?;
+        self.put_times(text)?;
+        text.extend_from_slice(b"\"message\":\"up and running\",\"version\":\"")?;
         text.extend_from_slice(VERSION)?;
         text.extend_from_slice(b"\"}}\n")
     }

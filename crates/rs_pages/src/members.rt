@@ -6,12 +6,12 @@ ghost use Rattle.rs_pages.specs.Judging.{IsGiven, is_client};
 
 use crate::server_pages::ServerPages;
 use crate::tables::{Ended, Rib, Tables};
-use crate::texts::{put_address, put_html, put_json, put_number, put_time};
+use crate::texts::{put_address, put_html, put_json, put_number};
 use rs_octets::Notification;
 use std::alloc::{AllocError, Global};
 
 /// A member, as the configuration has it.
-#[derive(Clone, Copy, Debug)]
+#[derive(Clone, Copy)]
 pub(crate) struct Member<'a> {
     pub(crate) place: usize,
     pub(crate) name: &'a [u8],
@@ -125,6 +125,16 @@ pub(crate) fn put_counts(
     text.extend_from_slice(b"}}\n")
 }
 
+/// Puts who a member is, as birdwatcher has it.
+fn put_neighbor(text: &mut Vec<u8>, member: &Member<'_>) -> Result<(), AllocError> {
+    text.extend_from_slice(b"\",\"description\":\"")?;
+    put_json(text, member.name)?;
+    text.extend_from_slice(b"\",\"neighbor_address\":\"")?;
+    put_address(text, member.peer)?;
+    text.extend_from_slice(b"\",\"neighbor_as\":")?;
+    put_number(text, u64::from(member.client_as))
+}
+
 impl<T: Tables> ServerPages<'_, T> {
     /// Puts a member as birdwatcher's `/protocols/bgp` has it, but for the counts: its name, and what is known of it.
     pub(crate) fn put_protocol(
@@ -139,17 +149,8 @@ impl<T: Tables> ServerPages<'_, T> {
         text.extend_from_slice(b"\",\"bird_protocol\":\"BGP\",\"state\":\"")?;
         text.extend_from_slice(up_or_down(self.tables, member, b"up", b"down"))?;
         text.extend_from_slice(b"\",\"state_changed\":\"")?;
-        put_time(
-            text,
-            self.alloc,
-            self.moments.time(self.moments.change(member.place)),
-        )?;
-        text.extend_from_slice(b"\",\"description\":\"")?;
-        put_json(text, member.name)?;
-        text.extend_from_slice(b"\",\"neighbor_address\":\"")?;
-        put_address(text, member.peer)?;
-        text.extend_from_slice(b"\",\"neighbor_as\":")?;
-        put_number(text, u64::from(member.client_as))?;
+        self.put_second(text, self.moments.change(member.place))?;
+        put_neighbor(text, member)?;
         self.put_state(text, member)
     }
 
@@ -183,11 +184,7 @@ impl<T: Tables> ServerPages<'_, T> {
         text.extend_from_slice(b"\",\"learnt_from\":\"")?;
         put_address(text, member.peer)?;
         text.extend_from_slice(b"\",\"age\":\"")?;
-        put_time(
-            text,
-            self.alloc,
-            self.moments.time(self.moments.change(member.place)),
-        )?;
+        self.put_second(text, self.moments.change(member.place))?;
         text.extend_from_slice(
             b"\",\"metric\":100,\"primary\":false,\"type\":[\"BGP\",\"unicast\",\"univ\"],",
         )
@@ -201,6 +198,12 @@ pub(crate) fn put_named(text: &mut Vec<u8>, member: &Member<'_>) -> Result<(), A
     text.extend_from_slice(b"\">")?;
     put_html(text, member.name)?;
     text.extend_from_slice(b"</a>")
+}
+
+/// Puts a cell that has a number.
+fn put_number_cell(text: &mut Vec<u8>, number: u64) -> Result<(), AllocError> {
+    text.extend_from_slice(b"<td class=number>")?;
+    put_number(text, number)
 }
 
 impl<T: Tables> ServerPages<'_, T> {
@@ -222,19 +225,11 @@ impl<T: Tables> ServerPages<'_, T> {
             b"<td class=up>up<td>",
             b"<td class=down>down<td>",
         ))?;
-        put_time(
-            text,
-            self.alloc,
-            self.moments.time(self.moments.change(member.place)),
-        )?;
-        text.extend_from_slice(b"<td class=number>")?;
-        put_number(text, self.tables.count(Rib::Received, member.place) as u64)?;
-        text.extend_from_slice(b"<td class=number>")?;
-        put_number(text, self.tables.dropped(member.place) as u64)?;
-        text.extend_from_slice(b"<td class=number>")?;
-        put_number(text, self.tables.faults(member.place).at_fault)?;
-        text.extend_from_slice(b"<td class=number>")?;
-        put_number(text, self.tables.count(Rib::Sent, member.place) as u64)?;
+        self.put_second(text, self.moments.change(member.place))?;
+        put_number_cell(text, self.tables.count(Rib::Received, member.place) as u64)?;
+        put_number_cell(text, self.tables.dropped(member.place) as u64)?;
+        put_number_cell(text, self.tables.faults(member.place).at_fault)?;
+        put_number_cell(text, self.tables.count(Rib::Sent, member.place) as u64)?;
         text.extend_from_slice(b"</tr>\n")
     }
 }

@@ -8,7 +8,7 @@ use crate::texts::{put_json, put_number, put_seconds};
 use std::alloc::AllocError;
 
 /// A number that is told of each member.
-#[derive(Clone, Copy, Debug, PartialEq, Eq)]
+#[derive(Clone, Copy)]
 pub(crate) enum Metric {
     Up,
     Since,
@@ -193,6 +193,13 @@ fn put_counter(text: &mut Vec<u8>, name: &[u8], help: &[u8], value: u64) -> Resu
     put_value(text, name, value)
 }
 
+/// Puts how many turns took at most so long, a text of seconds.
+fn put_bucket(text: &mut Vec<u8>, bound: &str, count: u64) -> Result<(), AllocError> {
+    text.extend_from_slice(b"rs_turn_duration_seconds_bucket{le=\"")?;
+    text.extend_from_slice(bound.as_bytes())?;
+    put_value(text, b"\"}", count)
+}
+
 /// Puts how long turns took: how many within each bound, and all.
 fn put_turns(text: &mut Vec<u8>, turns: &Histogram) -> Result<(), AllocError> {
     put_type(
@@ -202,13 +209,10 @@ fn put_turns(text: &mut Vec<u8>, turns: &Histogram) -> Result<(), AllocError> {
         b"histogram",
     )?;
     for (at, (_, bound)) in BOUNDS.iter().enumerate() {
-        text.extend_from_slice(b"rs_turn_duration_seconds_bucket{le=\"")?;
-        text.extend_from_slice(bound.as_bytes())?;
-        text.extend_from_slice(b"\"}")?;
-        put_value(text, b"", turns.within(at.saturating_add(1)))?;
+        put_bucket(text, bound, turns.within(at.saturating_add(1)))?;
     }
     let all = turns.within(usize::MAX);
-    put_value(text, b"rs_turn_duration_seconds_bucket{le=\"+Inf\"}", all)?;
+    put_bucket(text, "+Inf", all)?;
     text.extend_from_slice(b"rs_turn_duration_seconds_sum ")?;
     put_seconds(text, turns.sum())?;
     text.extend_from_slice(b"\n")?;

@@ -3,7 +3,7 @@
 use crate::members::{Member, member_at, put_ending, put_named};
 use crate::server_pages::ServerPages;
 use crate::tables::Tables;
-use crate::texts::{put_address, put_html, put_number, put_prefix, put_time};
+use crate::texts::{put_address, put_html, put_number, put_prefix};
 use crate::views::Listing;
 use rs_attrs::Attrs;
 use rs_octets::Prefix;
@@ -30,7 +30,7 @@ impl<T: Tables> ServerPages<'_, T> {
         text.extend_from_slice(b"</h1>\n<p>")?;
         put_address(text, config.identifier())?;
         text.extend_from_slice(b", up since ")?;
-        put_time(text, self.alloc, self.moments.time(0))?;
+        self.put_second(text, 0)?;
         text.extend_from_slice(b".</p>\n")?;
         text.extend_from_slice(SEARCH)?;
         text.extend_from_slice(COLUMNS)
@@ -60,17 +60,10 @@ impl<T: Tables> ServerPages<'_, T> {
         self.put_member_row(text, &member)?;
         text.extend_from_slice(b"</table>\n<p>")?;
         self.put_last(text, &member)?;
-        text.extend_from_slice(b"</p>\n<p><a href=\"")?;
-        put_target(text, &member, RECEIVED)?;
-        text.extend_from_slice(b"\">Routes received</a>, <a href=\"")?;
-        put_target(text, &member, SENT)?;
-        text.extend_from_slice(
-            b"\">routes sent</a></p>\n<form action=\"/why\"><input type=hidden name=to value=\"",
-        )?;
-        put_html(text, member.name)?;
-        text.extend_from_slice(
-            b"\"><label>Why it is sent what it is for <input name=prefix placeholder=192.0.2.0/24 required></label> <button>Ask</button></form>\n</html>\n",
-        )
+        text.extend_from_slice(b"</p>\n")?;
+        put_links(text, &member)?;
+        put_why_form(text, &member)?;
+        text.extend_from_slice(b"</html>\n")
     }
 
     /// Puts why the last session that ended did so.
@@ -97,6 +90,24 @@ fn put_target(text: &mut Vec<u8>, member: &Member<'_>, page: &[u8]) -> Result<()
     text.extend_from_slice(page)
 }
 
+/// Puts the links to the pages of a member's routes.
+fn put_links(text: &mut Vec<u8>, member: &Member<'_>) -> Result<(), AllocError> {
+    text.extend_from_slice(b"<p><a href=\"")?;
+    put_target(text, member, RECEIVED)?;
+    text.extend_from_slice(b"\">Routes received</a>, <a href=\"")?;
+    put_target(text, member, SENT)?;
+    text.extend_from_slice(b"\">routes sent</a></p>\n")
+}
+
+/// Puts the form that asks why a member is sent what it is.
+fn put_why_form(text: &mut Vec<u8>, member: &Member<'_>) -> Result<(), AllocError> {
+    text.extend_from_slice(b"<form action=\"/why\"><input type=hidden name=to value=\"")?;
+    put_html(text, member.name)?;
+    text.extend_from_slice(
+        b"\"><label>Why it is sent what it is for <input name=prefix placeholder=192.0.2.0/24 required></label> <button>Ask</button></form>\n",
+    )
+}
+
 /// The target of a page of a member's routes, within HTML.
 pub(crate) fn target_of<T: Tables>(
     alloc: Global,
@@ -106,10 +117,11 @@ pub(crate) fn target_of<T: Tables>(
 ) -> Result<Vec<u8>, AllocError> {
     let mut target = Vec::new(alloc);
     if let Some(member) = member_at(tables, page.place) {
-        match listing {
-            Listing::Sent => put_target(&mut target, &member, SENT)?,
-            _ => put_target(&mut target, &member, RECEIVED)?,
-        }
+        let page = match listing {
+            Listing::Sent => SENT,
+            _ => RECEIVED,
+        };
+        put_target(&mut target, &member, page)?;
     }
     Ok(target)
 }
@@ -124,10 +136,11 @@ pub(crate) fn put_routes<T: Tables>(
     let Some(member) = member_at(tables, page.place) else {
         return Ok(());
     };
-    match listing {
-        Listing::Sent => put_top(text, member.name, b": routes sent")?,
-        _ => put_top(text, member.name, b": routes received")?,
-    }
+    let title = match listing {
+        Listing::Sent => b": routes sent".as_slice(),
+        _ => b": routes received".as_slice(),
+    };
+    put_top(text, member.name, title)?;
     text.extend_from_slice(b"<p>")?;
     put_named(text, &member)?;
     text.extend_from_slice(b"</p>\n<table>\n<tr><th>Prefix")?;
@@ -153,6 +166,19 @@ pub(crate) fn put_found(
     text.extend_from_slice(b"<th>It is sent</tr>\n")
 }
 
+/// Puts the link to why a member is sent what it is for a prefix.
+fn put_why_link(
+    text: &mut Vec<u8>,
+    member: &Member<'_>,
+    prefix: &Prefix,
+) -> Result<(), AllocError> {
+    text.extend_from_slice(b"<a href=\"/why?to=")?;
+    put_html(text, member.name)?;
+    text.extend_from_slice(b"&amp;prefix=")?;
+    put_prefix(text, prefix)?;
+    text.extend_from_slice(b"\">why</a>")
+}
+
 /// Puts the row of who announces a prefix.
 pub(crate) fn put_holder(
     text: &mut Vec<u8>,
@@ -166,9 +192,7 @@ pub(crate) fn put_holder(
     text.extend_from_slice(b"<td>")?;
     put_address(text, attrs.next_hop().unwrap_or(0))?;
     text.extend_from_slice(cells)?;
-    text.extend_from_slice(b"<td><a href=\"/why?to=")?;
-    put_html(text, member.name)?;
-    text.extend_from_slice(b"&amp;prefix=")?;
-    put_prefix(text, prefix)?;
-    text.extend_from_slice(b"\">why</a></tr>\n")
+    text.extend_from_slice(b"<td>")?;
+    put_why_link(text, member, prefix)?;
+    text.extend_from_slice(b"</tr>\n")
 }

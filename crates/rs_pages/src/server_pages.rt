@@ -16,7 +16,7 @@ use crate::metrics::{Metric, put_server};
 use crate::moments::Moments;
 use crate::people::{put_found, put_holder, put_routes};
 use crate::reasons::put_candidate;
-use crate::server_pages::course::{behind_head, behind_member, comma, stopped};
+use crate::server_pages::course::{behind_member, comma, next_of_head, stopped};
 use crate::tables::{Holder, Rib, Tables};
 use crate::targets::find_page;
 use crate::views::{Item, Listing, Stage, View, most_items};
@@ -47,6 +47,28 @@ impl<'a, T: Tables> ServerPages<'a, T> {
         }
     }
 
+    /// Puts what a page begins with.
+    fn put_front(&self, view: View, page: Page, text: &mut Vec<u8>) -> Result<(), AllocError> {
+        let tables = self.tables;
+        match view {
+            View::Home => self.put_home(text),
+            View::Member => self.put_member(text, page.place),
+            View::Status => self.put_status(text),
+            View::Count => self.put_count(text, page.place),
+            View::Protocols | View::Protocol => self.put_list(text, b"\"protocols\":{"),
+            View::Routes | View::Filtered | View::NoExport | View::AtPrefix => {
+                self.put_list(text, b"\"routes\":[")
+            }
+            View::Received => put_table(text, tables, page.place, b"received"),
+            View::Sent => put_table(text, tables, page.place, b"sent"),
+            View::ReceivedTable => put_routes(text, tables, Listing::Received, page),
+            View::SentTable => put_routes(text, tables, Listing::Sent, page),
+            View::Search => put_found(text, self.alloc, &prefix_at(page.at)),
+            View::Why => put_question(text, tables, page),
+            View::Metrics => put_server(text, tables, self.moments),
+        }
+    }
+
     /// Puts the head of a page; `None` where nothing comes behind it.
     fn put_head(
         &self,
@@ -56,38 +78,8 @@ impl<'a, T: Tables> ServerPages<'a, T> {
     ) -> Result<Option<Page>, AllocError>
         ensures { IfOk result (IsHead view page) }
     {
-        let tables = self.tables;
-        match view {
-            View::Status => {
-                self.put_status(text)?;
-                return Ok(None);
-            }
-            View::Count => {
-                self.put_count(text, page.place)?;
-                return Ok(None);
-            }
-            View::Member => {
-                self.put_member(text, page.place)?;
-                return Ok(None);
-            }
-            View::Home => self.put_home(text)?,
-            View::Protocols | View::Protocol => {
-                self.put_api(text)?;
-                text.extend_from_slice(b"\"protocols\":{")?;
-            }
-            View::Routes | View::Filtered | View::NoExport | View::AtPrefix => {
-                self.put_api(text)?;
-                text.extend_from_slice(b"\"routes\":[")?;
-            }
-            View::Received => put_table(text, tables, page.place, b"received")?,
-            View::Sent => put_table(text, tables, page.place, b"sent")?,
-            View::ReceivedTable => put_routes(text, tables, Listing::Received, page)?,
-            View::SentTable => put_routes(text, tables, Listing::Sent, page)?,
-            View::Search => put_found(text, self.alloc, &prefix_at(page.at))?,
-            View::Why => put_question(text, tables, page)?,
-            View::Metrics => put_server(text, tables, self.moments)?,
-        }
-        Ok(Some(behind_head(view, page)))
+        self.put_front(view, page, text)?;
+        Ok(next_of_head(view, page))
     }
 
     /// Puts the row of the next member.

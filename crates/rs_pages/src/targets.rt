@@ -30,38 +30,57 @@ fn listing(view: View, place: usize, query: &[u8]) -> Option<Page> {
     Some(view.page(place, from, count))
 }
 
+/// The pages that have a path of their own.
+static PATHS: [(&[u8], View); 4] = [
+    (b"/", View::Home),
+    (b"/status", View::Status),
+    (b"/protocols/bgp", View::Protocols),
+    (b"/metrics", View::Metrics),
+];
+
+/// The pages below a member's.
+static TABLES: [(&[u8], View); 4] = [
+    (b"received", View::Received),
+    (b"sent", View::Sent),
+    (b"received.html", View::ReceivedTable),
+    (b"sent.html", View::SentTable),
+];
+
+/// The pages below `/routes/` that a member's name follows, and how many routes each lists at most.
+static ROUTES: [(&[u8], View, u32); 4] = [
+    (b"protocol/", View::Routes, u32::MAX),
+    (b"filtered/", View::Filtered, u32::MAX),
+    (b"noexport/", View::NoExport, u32::MAX),
+    (b"count/protocol/", View::Count, 0),
+];
+
+/// The page with this path, of some.
+fn view_at(views: &[(&[u8], View)], path: &[u8]) -> Option<View> {
+    for (own, view) in views {
+        if *own == path {
+            return Some(*view);
+        }
+    }
+    None
+}
+
 /// A page below `/members/`.
 fn member_page<T: Tables>(tables: &T, rest: &[u8], query: &[u8]) -> Option<Page> {
     let (name, table) = parted(rest, b'/');
     let place = member(tables, name)?;
     if name.len() == rest.len() {
-        Some(View::Member.page(place, 0, 0))
-    } else if table == b"received".as_slice() {
-        listing(View::Received, place, query)
-    } else if table == b"sent".as_slice() {
-        listing(View::Sent, place, query)
-    } else if table == b"received.html".as_slice() {
-        listing(View::ReceivedTable, place, query)
-    } else if table == b"sent.html".as_slice() {
-        listing(View::SentTable, place, query)
-    } else {
-        None
+        return Some(View::Member.page(place, 0, 0));
     }
+    let view = view_at(&TABLES, table)?;
+    listing(view, place, query)
 }
 
 /// A page below `/routes/`.
 fn routes_page<T: Tables>(tables: &T, rest: &[u8], query: &[u8]) -> Option<Page> {
-    if let Some(name) = rest.strip_prefix(b"protocol/".as_slice()) {
-        return Some(View::Routes.page(member(tables, name)?, 0, u32::MAX));
-    }
-    if let Some(name) = rest.strip_prefix(b"filtered/".as_slice()) {
-        return Some(View::Filtered.page(member(tables, name)?, 0, u32::MAX));
-    }
-    if let Some(name) = rest.strip_prefix(b"noexport/".as_slice()) {
-        return Some(View::NoExport.page(member(tables, name)?, 0, u32::MAX));
-    }
-    if let Some(name) = rest.strip_prefix(b"count/protocol/".as_slice()) {
-        return Some(View::Count.page(member(tables, name)?, 0, 0));
+    for (front, view, most) in &ROUTES {
+        if let Some(name) = rest.strip_prefix(*front) {
+            return Some(view.page(member(tables, name)?, 0, *most));
+        }
     }
     if rest == b"prefix".as_slice() {
         return prefix_page(View::AtPrefix, query);
@@ -100,15 +119,6 @@ pub(crate) fn find_page<T: Tables>(tables: &T, target: &[u8]) -> Option<Page> {
     if path == b"/search".as_slice() {
         return prefix_page(View::Search, query);
     }
-    if path == b"/".as_slice() {
-        Some(View::Home.page(0, 0, 0))
-    } else if path == b"/status".as_slice() {
-        Some(View::Status.page(0, 0, 0))
-    } else if path == b"/protocols/bgp".as_slice() {
-        Some(View::Protocols.page(0, 0, 0))
-    } else if path == b"/metrics".as_slice() {
-        Some(View::Metrics.page(0, 0, 0))
-    } else {
-        None
-    }
+    let view = view_at(&PATHS, path)?;
+    Some(view.page(0, 0, 0))
 }

@@ -7,7 +7,7 @@ use crate::tables::Rib;
 use rs_window::page::{Kind, Page};
 
 /// A page.
-#[derive(Clone, Copy, Debug, PartialEq, Eq)]
+#[derive(Clone, Copy)]
 pub(crate) enum View {
     /// The members, for people.
     Home,
@@ -46,7 +46,7 @@ pub(crate) enum View {
 }
 
 /// An item of a page: the page as it is read, and as it stands.
-#[derive(Clone, Copy, Debug)]
+#[derive(Clone, Copy)]
 pub(crate) struct Item {
     pub(crate) view: View,
     pub(crate) stage: Stage,
@@ -54,7 +54,7 @@ pub(crate) struct Item {
 }
 
 /// Which routes a page lists.
-#[derive(Clone, Copy, Debug, PartialEq, Eq)]
+#[derive(Clone, Copy)]
 pub(crate) enum Listing {
     /// What a member announced.
     Received,
@@ -93,7 +93,7 @@ impl Listing {
 }
 
 /// How far a page is.
-#[derive(Clone, Copy, Debug, PartialEq, Eq)]
+#[derive(Clone, Copy)]
 pub(crate) enum Stage {
     /// Nothing was written.
     Head,

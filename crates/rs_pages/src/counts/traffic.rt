@@ -15,7 +15,7 @@ const ANY: Allowed = Allowed {
 };
 
 /// Where the octets of a session end that have come.
-#[derive(Clone, Copy, Debug, PartialEq, Eq)]
+#[derive(Clone, Copy, Debug)]
 enum Reading {
     /// Behind so many octets of a header, fewer than 19.
     Header(usize),

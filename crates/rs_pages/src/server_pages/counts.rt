@@ -78,5 +78,8 @@ impl<'a, T: Tables> ServerPages<'a, T> {
 fn closing(view: View) -> &'static [u8]
     ensures { result.now ≡ closing_text view }
 {
-    if view == View::Protocol { b"}}\n" } else { b"" }
+    match view {
+        View::Protocol => b"}}\n",
+        _ => b"",
+    }
 }

@@ -3,7 +3,7 @@
 ghost use Rattle.std.specs.Prelude.{◌≡◌, ◌+◌, ◌<◌, nat_le, false};
 ghost use Rattle.rs_pages.specs.Counting.{behind_count, counting};
 ghost use Rattle.rs_pages.specs.Views.{comma_text};
-ghost use Rattle.rs_pages.specs.Listings.{behind_head, behind_member, behind_route, passing_over, next_table, stopped};
+ghost use Rattle.rs_pages.specs.Listings.{IsHead, behind_head, behind_member, behind_route, passing_over, next_table, stopped};
 
 use crate::keys::key;
 use crate::views::{Stage, View};
@@ -11,12 +11,22 @@ use rs_octets::Prefix;
 use rs_window::page::{Next, Page, Piece};
 
 /// The page behind its head.
-pub(crate) fn behind_head(view: View, page: Page) -> Page
+fn behind_head(view: View, page: Page) -> Page
     ensures { result ≡ behind_head view page }
 {
     Page {
         which: view.at(Stage::First),
         ..page
+    }
+}
+
+/// The page behind its head, where something comes behind that.
+pub(crate) fn next_of_head(view: View, page: Page) -> Option<Page>
+    ensures { IsHead view page result }
+{
+    match view {
+        View::Status | View::Count | View::Member => None,
+        _ => Some(behind_head(view, page)),
     }
 }
 
