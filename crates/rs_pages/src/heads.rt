@@ -2,33 +2,36 @@
 
 use crate::keys::prefix_at;
 use crate::members::{imported, member_at};
+use crate::parts::{Part, put_parts};
 use crate::server_pages::ServerPages;
 use crate::tables::Tables;
-use crate::texts::{put_address, put_json, put_number, put_prefix, put_time};
 use rs_window::page::Page;
-use std::alloc::{AllocError, Global};
+use std::alloc::AllocError;
 
 /// What `/status` calls the program.
 const VERSION: &[u8] = b"Tivrazel 0.1.0";
 
 impl<T: Tables> ServerPages<'_, T> {
-    /// Puts the time of day in this second since the start.
-    pub(crate) fn put_second(&self, text: &mut Vec<u8>, second: u64) -> Result<(), AllocError> {
-        put_time(text, self.alloc, self.moments.time(second))
+    /// The time of day in this second since the start.
+    pub(crate) fn time<'b>(&self, second: u64) -> Part<'b> {
+        Part::Time(self.alloc, self.moments.time(second))
     }
 
     /// Puts what birdwatcher's answers begin with.
     pub(crate) fn put_api(&self, text: &mut Vec<u8>) -> Result<(), AllocError> {
         let now = self.moments.now;
-        text.extend_from_slice(b"{\"api\":{\"Version\":\"")?;
-        text.extend_from_slice(VERSION)?;
-        text.extend_from_slice(
-            b"\",\"result_from_cache\":false,\"cache_status\":{\"cached_at\":{\"date\":\"",
-        )?;
-        self.put_second(text, now)?;
-        text.extend_from_slice(b"\",\"timezone_type\":\"UTC\",\"timezone\":\"UTC\"}}},\"ttl\":\"")?;
-        self.put_second(text, now)?;
-        text.extend_from_slice(b"\",")
+        let parts = [
+            Part::Plain(b"{\"api\":{\"Version\":\""),
+            Part::Plain(VERSION),
+            Part::Plain(
+                b"\",\"result_from_cache\":false,\"cache_status\":{\"cached_at\":{\"date\":\"",
+            ),
+            self.time(now),
+            Part::Plain(b"\",\"timezone_type\":\"UTC\",\"timezone\":\"UTC\"}}},\"ttl\":\""),
+            self.time(now),
+            Part::Plain(b"\","),
+        ];
+        put_parts(text, &parts)
     }
 
     /// Puts what those begin with that have a list, and how the list begins.
@@ -37,27 +40,23 @@ impl<T: Tables> ServerPages<'_, T> {
         text.extend_from_slice(list)
     }
 
-    /// Puts the times of `/status`.
-    fn put_times(&self, text: &mut Vec<u8>) -> Result<(), AllocError> {
-        text.extend_from_slice(b"\"server_time\":\"")?;
-        self.put_second(text, self.moments.now)?;
-        text.extend_from_slice(b"\",\"last_reboot\":\"")?;
-        self.put_second(text, 0)?;
-        text.extend_from_slice(b"\",\"last_reconfig\":\"")?;
-        self.put_second(text, self.moments.rules)?;
-        text.extend_from_slice(b"\",")
-    }
-
     /// Puts birdwatcher's `/status`.
     pub(crate) fn put_status(&self, text: &mut Vec<u8>) -> Result<(), AllocError> {
         self.put_api(text)?;
-        text.extend_from_slice(b"\"status\":{\"router_id\":\"")?;
-        put_address(text, self.tables.config().identifier())?;
-        text.extend_from_slice(b"\",")?;
-        self.put_times(text)?;
-        text.extend_from_slice(b"\"message\":\"up and running\",\"version\":\"")?;
-        text.extend_from_slice(VERSION)?;
-        text.extend_from_slice(b"\"}}\n")
+        let parts = [
+            Part::Plain(b"\"status\":{\"router_id\":\""),
+            Part::Address(self.tables.config().identifier()),
+            Part::Plain(b"\",\"server_time\":\""),
+            self.time(self.moments.now),
+            Part::Plain(b"\",\"last_reboot\":\""),
+            self.time(0),
+            Part::Plain(b"\",\"last_reconfig\":\""),
+            self.time(self.moments.rules),
+            Part::Plain(b"\",\"message\":\"up and running\",\"version\":\""),
+            Part::Plain(VERSION),
+            Part::Plain(b"\"}}\n"),
+        ];
+        put_parts(text, &parts)
     }
 
     /// Puts how many of a member's routes its import list passes, as birdwatcher has it.
@@ -66,27 +65,33 @@ impl<T: Tables> ServerPages<'_, T> {
             return Ok(());
         };
         self.put_api(text)?;
-        text.extend_from_slice(b"\"routes\":")?;
-        put_number(text, imported(self.tables, &member))?;
-        text.extend_from_slice(b"}\n")
+        let parts = [
+            Part::Plain(b"\"routes\":"),
+            Part::Number(imported(self.tables, &member)),
+            Part::Plain(b"}\n"),
+        ];
+        put_parts(text, &parts)
     }
 }
 
 /// Puts the head of one of our own pages of routes.
-pub(crate) fn put_table<T: Tables>(
+pub(crate) fn put_table<'a, T: Tables>(
     text: &mut Vec<u8>,
-    tables: &T,
+    tables: &'a T,
     place: usize,
-    table: &[u8],
+    table: &'a [u8],
 ) -> Result<(), AllocError> {
     let Some(member) = member_at(tables, place) else {
         return Ok(());
     };
-    text.extend_from_slice(b"{\"member\":\"")?;
-    put_json(text, member.name)?;
-    text.extend_from_slice(b"\",\"table\":\"")?;
-    text.extend_from_slice(table)?;
-    text.extend_from_slice(b"\",\"routes\":[")
+    let parts = [
+        Part::Plain(b"{\"member\":\""),
+        Part::Json(member.name),
+        Part::Plain(b"\",\"table\":\""),
+        Part::Plain(table),
+        Part::Plain(b"\",\"routes\":["),
+    ];
+    put_parts(text, &parts)
 }
 
 /// Puts the head of `/why`.
@@ -98,9 +103,12 @@ pub(crate) fn put_question<T: Tables>(
     let Some(member) = member_at(tables, page.place) else {
         return Ok(());
     };
-    text.extend_from_slice(b"{\"to\":\"")?;
-    put_json(text, member.name)?;
-    text.extend_from_slice(b"\",\"prefix\":\"")?;
-    put_prefix(text, &prefix_at(page.at))?;
-    text.extend_from_slice(b"\",\"candidates\":[")
+    let parts = [
+        Part::Plain(b"{\"to\":\""),
+        Part::Json(member.name),
+        Part::Plain(b"\",\"prefix\":\""),
+        Part::Prefix(prefix_at(page.at)),
+        Part::Plain(b"\",\"candidates\":["),
+    ];
+    put_parts(text, &parts)
 }

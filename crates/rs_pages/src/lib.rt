@@ -5,7 +5,7 @@
 //! `attributes`, of which `judging` finds those that the rules drop and `counting` those that are preferred,
 //! `members` what is known of each, `reasons` why a member is sent what it is of the `candidates`, `people` the
 //! pages in HTML and `metrics` those for Prometheus. `keys` are prefixes as numbers, by which a page goes on, and
-//! `texts` are put by all. All is made of `tables`, a trait that a route server has, and of `moments`, which its
+//! `texts` are put by all, `parts` one behind the other. All is made of `tables`, a trait that a route server has, and of `moments`, which its
 //! loop knows, with its `counts`: of the `traffic` of each member, and how long turns took, a `histogram`.
 //!
 //! The tests stand in `rs_tests`, in `src/pages.rt`.
@@ -21,6 +21,7 @@ pub mod keys;
 mod members;
 mod metrics;
 pub mod moments;
+mod parts;
 mod people;
 mod reasons;
 mod routes;

@@ -4,9 +4,10 @@ ghost use Rattle.std.specs.Prelude.{◌≡◌, ◌<◌, ◌++◌, is_some, IfSom
 ghost use Rattle.rs_pages.specs.Counting.{counts_text, numbered};
 ghost use Rattle.rs_pages.specs.Judging.{IsGiven, is_client};
 
+use crate::parts::{Part, put_parts};
 use crate::server_pages::ServerPages;
 use crate::tables::{Ended, Rib, Tables};
-use crate::texts::{put_address, put_html, put_json, put_number};
+use crate::texts::{put_json, put_number};
 use rs_octets::Notification;
 use std::alloc::{AllocError, Global};
 
@@ -125,16 +126,6 @@ pub(crate) fn put_counts(
     text.extend_from_slice(b"}}\n")
 }
 
-/// Puts who a member is, as birdwatcher has it.
-fn put_neighbor(text: &mut Vec<u8>, member: &Member<'_>) -> Result<(), AllocError> {
-    text.extend_from_slice(b"\",\"description\":\"")?;
-    put_json(text, member.name)?;
-    text.extend_from_slice(b"\",\"neighbor_address\":\"")?;
-    put_address(text, member.peer)?;
-    text.extend_from_slice(b"\",\"neighbor_as\":")?;
-    put_number(text, u64::from(member.client_as))
-}
-
 impl<T: Tables> ServerPages<'_, T> {
     /// Puts a member as birdwatcher's `/protocols/bgp` has it, but for the counts: its name, and what is known of it.
     pub(crate) fn put_protocol(
@@ -142,33 +133,47 @@ impl<T: Tables> ServerPages<'_, T> {
         text: &mut Vec<u8>,
         member: &Member<'_>,
     ) -> Result<(), AllocError> {
-        text.extend_from_slice(b"\"")?;
-        put_json(text, member.name)?;
-        text.extend_from_slice(b"\":{\"protocol\":\"")?;
-        put_json(text, member.name)?;
-        text.extend_from_slice(b"\",\"bird_protocol\":\"BGP\",\"state\":\"")?;
-        text.extend_from_slice(up_or_down(self.tables, member, b"up", b"down"))?;
-        text.extend_from_slice(b"\",\"state_changed\":\"")?;
-        self.put_second(text, self.moments.change(member.place))?;
-        put_neighbor(text, member)?;
+        let parts = [
+            Part::Plain(b"\""),
+            Part::Json(member.name),
+            Part::Plain(b"\":{\"protocol\":\""),
+            Part::Json(member.name),
+            Part::Plain(b"\",\"bird_protocol\":\"BGP\",\"state\":\""),
+            Part::Plain(up_or_down(self.tables, member, b"up", b"down")),
+            Part::Plain(b"\",\"state_changed\":\""),
+            self.time(self.moments.change(member.place)),
+            Part::Plain(b"\",\"description\":\""),
+            Part::Json(member.name),
+            Part::Plain(b"\",\"neighbor_address\":\""),
+            Part::Address(member.peer),
+            Part::Plain(b"\",\"neighbor_as\":"),
+            Part::Number(u64::from(member.client_as)),
+        ];
+        put_parts(text, &parts)?;
         self.put_state(text, member)
     }
 
     /// Puts the rest of it.
     fn put_state(&self, text: &mut Vec<u8>, member: &Member<'_>) -> Result<(), AllocError> {
-        text.extend_from_slice(b",\"bgp_state\":\"")?;
-        text.extend_from_slice(up_or_down(self.tables, member, b"Established", b"Down"))?;
-        text.extend_from_slice(b"\",\"uptime\":")?;
         let uptime = if self.tables.is_established(member.place) {
             self.moments.since(member.place)
         } else {
             0
         };
-        put_number(text, uptime)?;
-        if self.moments.is_disabled(member.place) {
-            text.extend_from_slice(b",\"disabled\":true")?;
-        }
-        text.extend_from_slice(b",\"last_error\":\"")?;
+        let disabled: &[u8] = if self.moments.is_disabled(member.place) {
+            b",\"disabled\":true"
+        } else {
+            b""
+        };
+        let parts = [
+            Part::Plain(b",\"bgp_state\":\""),
+            Part::Plain(up_or_down(self.tables, member, b"Established", b"Down")),
+            Part::Plain(b"\",\"uptime\":"),
+            Part::Number(uptime),
+            Part::Plain(disabled),
+            Part::Plain(b",\"last_error\":\""),
+        ];
+        put_parts(text, &parts)?;
         put_ending(text, self.alloc, self.tables.ended(member.place))?;
         text.extend_from_slice(b"\",")
     }
@@ -179,31 +184,39 @@ impl<T: Tables> ServerPages<'_, T> {
         text: &mut Vec<u8>,
         member: &Member<'_>,
     ) -> Result<(), AllocError> {
-        text.extend_from_slice(b"\"from_protocol\":\"")?;
-        put_json(text, member.name)?;
-        text.extend_from_slice(b"\",\"learnt_from\":\"")?;
-        put_address(text, member.peer)?;
-        text.extend_from_slice(b"\",\"age\":\"")?;
-        self.put_second(text, self.moments.change(member.place))?;
-        text.extend_from_slice(
-            b"\",\"metric\":100,\"primary\":false,\"type\":[\"BGP\",\"unicast\",\"univ\"],",
-        )
+        let parts = [
+            Part::Plain(b"\"from_protocol\":\""),
+            Part::Json(member.name),
+            Part::Plain(b"\",\"learnt_from\":\""),
+            Part::Address(member.peer),
+            Part::Plain(b"\",\"age\":\""),
+            self.time(self.moments.change(member.place)),
+            Part::Plain(
+                b"\",\"metric\":100,\"primary\":false,\"type\":[\"BGP\",\"unicast\",\"univ\"],",
+            ),
+        ];
+        put_parts(text, &parts)
     }
 }
 
+/// What a cell that has a number begins with.
+const NUMBER_CELL: Part<'static> = Part::Plain(b"<td class=number>");
+
+/// The cell for a member whose session is Established, and the one for another; the next cell begins.
+const UP_CELL: &[u8] = b"<td class=up>up<td>";
+
+const DOWN_CELL: &[u8] = b"<td class=down>down<td>";
+
 /// Puts a member's name, with a link to its page.
 pub(crate) fn put_named(text: &mut Vec<u8>, member: &Member<'_>) -> Result<(), AllocError> {
-    text.extend_from_slice(b"<a href=\"/members/")?;
-    put_html(text, member.name)?;
-    text.extend_from_slice(b"\">")?;
-    put_html(text, member.name)?;
-    text.extend_from_slice(b"</a>")
-}
-
-/// Puts a cell that has a number.
-fn put_number_cell(text: &mut Vec<u8>, number: u64) -> Result<(), AllocError> {
-    text.extend_from_slice(b"<td class=number>")?;
-    put_number(text, number)
+    let parts = [
+        Part::Plain(b"<a href=\"/members/"),
+        Part::Html(member.name),
+        Part::Plain(b"\">"),
+        Part::Html(member.name),
+        Part::Plain(b"</a>"),
+    ];
+    put_parts(text, &parts)
 }
 
 impl<T: Tables> ServerPages<'_, T> {
@@ -213,23 +226,26 @@ impl<T: Tables> ServerPages<'_, T> {
         text: &mut Vec<u8>,
         member: &Member<'_>,
     ) -> Result<(), AllocError> {
+        let place = member.place;
         text.extend_from_slice(b"<tr><td>")?;
         put_named(text, member)?;
-        text.extend_from_slice(b"<td>")?;
-        put_number(text, u64::from(member.client_as))?;
-        text.extend_from_slice(b"<td>")?;
-        put_address(text, member.peer)?;
-        text.extend_from_slice(up_or_down(
-            self.tables,
-            member,
-            b"<td class=up>up<td>",
-            b"<td class=down>down<td>",
-        ))?;
-        self.put_second(text, self.moments.change(member.place))?;
-        put_number_cell(text, self.tables.count(Rib::Received, member.place) as u64)?;
-        put_number_cell(text, self.tables.dropped(member.place) as u64)?;
-        put_number_cell(text, self.tables.faults(member.place).at_fault)?;
-        put_number_cell(text, self.tables.count(Rib::Sent, member.place) as u64)?;
-        text.extend_from_slice(b"</tr>\n")
+        let parts = [
+            Part::Plain(b"<td>"),
+            Part::Number(u64::from(member.client_as)),
+            Part::Plain(b"<td>"),
+            Part::Address(member.peer),
+            Part::Plain(up_or_down(self.tables, member, UP_CELL, DOWN_CELL)),
+            self.time(self.moments.change(place)),
+            NUMBER_CELL,
+            Part::Number(self.tables.count(Rib::Received, place) as u64),
+            NUMBER_CELL,
+            Part::Number(self.tables.dropped(place) as u64),
+            NUMBER_CELL,
+            Part::Number(self.tables.faults(place).at_fault),
+            NUMBER_CELL,
+            Part::Number(self.tables.count(Rib::Sent, place) as u64),
+            Part::Plain(b"</tr>\n"),
+        ];
+        put_parts(text, &parts)
     }
 }

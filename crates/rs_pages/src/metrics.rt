@@ -3,8 +3,9 @@
 use crate::counts::Direction;
 use crate::counts::histogram::{BOUNDS, Histogram};
 use crate::moments::Moments;
+use crate::parts::{Part, put_parts};
 use crate::tables::{Rib, Tables};
-use crate::texts::{put_json, put_number, put_seconds};
+use crate::texts::put_seconds;
 use std::alloc::AllocError;
 
 /// A number that is told of each member.
@@ -135,12 +136,15 @@ impl Metric {
         if client >= config.clients() {
             return Ok(());
         }
-        text.extend_from_slice(self.name())?;
-        text.extend_from_slice(b"{member=\"")?;
-        put_json(text, config.name(client).as_bytes())?;
-        text.extend_from_slice(self.label())?;
-        put_number(text, self.value(tables, moments, client))?;
-        text.extend_from_slice(b"\n")
+        let parts = [
+            Part::Plain(self.name()),
+            Part::Plain(b"{member=\""),
+            Part::Json(config.name(client).as_bytes()),
+            Part::Plain(self.label()),
+            Part::Number(self.value(tables, moments, client)),
+            Part::Plain(b"\n"),
+        ];
+        put_parts(text, &parts)
     }
 }
 
@@ -156,29 +160,35 @@ pub(crate) fn established<T: Tables>(tables: &T) -> u64 {
 }
 
 /// Puts what a metric of the server is, and of which type.
-fn put_type(
+fn put_type<'a>(
     text: &mut Vec<u8>,
-    name: &[u8],
-    help: &[u8],
-    metric_type: &[u8],
+    name: &'a [u8],
+    help: &'a [u8],
+    metric_type: &'a [u8],
 ) -> Result<(), AllocError> {
-    text.extend_from_slice(b"# HELP ")?;
-    text.extend_from_slice(name)?;
-    text.extend_from_slice(b" ")?;
-    text.extend_from_slice(help)?;
-    text.extend_from_slice(b"\n# TYPE ")?;
-    text.extend_from_slice(name)?;
-    text.extend_from_slice(b" ")?;
-    text.extend_from_slice(metric_type)?;
-    text.extend_from_slice(b"\n")
+    let parts = [
+        Part::Plain(b"# HELP "),
+        Part::Plain(name),
+        Part::Plain(b" "),
+        Part::Plain(help),
+        Part::Plain(b"\n# TYPE "),
+        Part::Plain(name),
+        Part::Plain(b" "),
+        Part::Plain(metric_type),
+        Part::Plain(b"\n"),
+    ];
+    put_parts(text, &parts)
 }
 
 /// Puts a sample of the server: its name, with what it is labelled, and its value.
 fn put_value(text: &mut Vec<u8>, name: &[u8], value: u64) -> Result<(), AllocError> {
-    text.extend_from_slice(name)?;
-    text.extend_from_slice(b" ")?;
-    put_number(text, value)?;
-    text.extend_from_slice(b"\n")
+    let parts = [
+        Part::Plain(name),
+        Part::Plain(b" "),
+        Part::Number(value),
+        Part::Plain(b"\n"),
+    ];
+    put_parts(text, &parts)
 }
 
 /// Puts a metric of the server that rises and falls.

@@ -1,9 +1,10 @@
 //! The pages for people: plain HTML and CSS.
 
 use crate::members::{Member, member_at, put_ending, put_named};
+use crate::parts::{Part, put_parts};
 use crate::server_pages::ServerPages;
 use crate::tables::Tables;
-use crate::texts::{put_address, put_html, put_number, put_prefix};
+use crate::texts::put_prefix;
 use crate::views::Listing;
 use rs_attrs::Attrs;
 use rs_octets::Prefix;
@@ -24,29 +25,35 @@ impl<T: Tables> ServerPages<'_, T> {
     /// Puts the front of the page of all members.
     pub(crate) fn put_home(&self, text: &mut Vec<u8>) -> Result<(), AllocError> {
         let config = self.tables.config();
-        text.extend_from_slice(TOP)?;
-        text.extend_from_slice(b"<title>Route server</title>\n<h1>Route server, AS ")?;
-        put_number(text, u64::from(config.server_as()))?;
-        text.extend_from_slice(b"</h1>\n<p>")?;
-        put_address(text, config.identifier())?;
-        text.extend_from_slice(b", up since ")?;
-        self.put_second(text, 0)?;
-        text.extend_from_slice(b".</p>\n")?;
-        text.extend_from_slice(SEARCH)?;
-        text.extend_from_slice(COLUMNS)
+        let parts = [
+            Part::Plain(TOP),
+            Part::Plain(b"<title>Route server</title>\n<h1>Route server, AS "),
+            Part::Number(u64::from(config.server_as())),
+            Part::Plain(b"</h1>\n<p>"),
+            Part::Address(config.identifier()),
+            Part::Plain(b", up since "),
+            self.time(0),
+            Part::Plain(b".</p>\n"),
+            Part::Plain(SEARCH),
+            Part::Plain(COLUMNS),
+        ];
+        put_parts(text, &parts)
     }
 }
 
 /// Puts what the page of a thing of this name begins with.
-fn put_top(text: &mut Vec<u8>, name: &[u8], rest: &[u8]) -> Result<(), AllocError> {
-    text.extend_from_slice(TOP)?;
-    text.extend_from_slice(b"<title>")?;
-    put_html(text, name)?;
-    text.extend_from_slice(rest)?;
-    text.extend_from_slice(b"</title>\n<h1>")?;
-    put_html(text, name)?;
-    text.extend_from_slice(rest)?;
-    text.extend_from_slice(b"</h1>\n<p><a href=\"/\">All members</a></p>\n")
+fn put_top<'a>(text: &mut Vec<u8>, name: &'a [u8], rest: &'a [u8]) -> Result<(), AllocError> {
+    let parts = [
+        Part::Plain(TOP),
+        Part::Plain(b"<title>"),
+        Part::Html(name),
+        Part::Plain(rest),
+        Part::Plain(b"</title>\n<h1>"),
+        Part::Html(name),
+        Part::Plain(rest),
+        Part::Plain(b"</h1>\n<p><a href=\"/\">All members</a></p>\n"),
+    ];
+    put_parts(text, &parts)
 }
 
 impl<T: Tables> ServerPages<'_, T> {
@@ -62,7 +69,6 @@ impl<T: Tables> ServerPages<'_, T> {
         self.put_last(text, &member)?;
         text.extend_from_slice(b"</p>\n")?;
         put_links(text, &member)?;
-        put_why_form(text, &member)?;
         text.extend_from_slice(b"</html>\n")
     }
 
@@ -84,28 +90,37 @@ const RECEIVED: &[u8] = b"/received.html";
 const SENT: &[u8] = b"/sent.html";
 
 /// Puts the target of a page below a member's.
-fn put_target(text: &mut Vec<u8>, member: &Member<'_>, page: &[u8]) -> Result<(), AllocError> {
-    text.extend_from_slice(b"/members/")?;
-    put_html(text, member.name)?;
-    text.extend_from_slice(page)
+fn put_target<'a>(
+    text: &mut Vec<u8>,
+    member: &Member<'a>,
+    page: &'a [u8],
+) -> Result<(), AllocError> {
+    let parts = [
+        Part::Plain(b"/members/"),
+        Part::Html(member.name),
+        Part::Plain(page),
+    ];
+    put_parts(text, &parts)
 }
 
-/// Puts the links to the pages of a member's routes.
+/// Puts the links to the pages of a member's routes, and the form that asks why it is sent what it is.
 fn put_links(text: &mut Vec<u8>, member: &Member<'_>) -> Result<(), AllocError> {
-    text.extend_from_slice(b"<p><a href=\"")?;
-    put_target(text, member, RECEIVED)?;
-    text.extend_from_slice(b"\">Routes received</a>, <a href=\"")?;
-    put_target(text, member, SENT)?;
-    text.extend_from_slice(b"\">routes sent</a></p>\n")
-}
-
-/// Puts the form that asks why a member is sent what it is.
-fn put_why_form(text: &mut Vec<u8>, member: &Member<'_>) -> Result<(), AllocError> {
-    text.extend_from_slice(b"<form action=\"/why\"><input type=hidden name=to value=\"")?;
-    put_html(text, member.name)?;
-    text.extend_from_slice(
-        b"\"><label>Why it is sent what it is for <input name=prefix placeholder=192.0.2.0/24 required></label> <button>Ask</button></form>\n",
-    )
+    let parts = [
+        Part::Plain(b"<p><a href=\"/members/"),
+        Part::Html(member.name),
+        Part::Plain(RECEIVED),
+        Part::Plain(b"\">Routes received</a>, <a href=\"/members/"),
+        Part::Html(member.name),
+        Part::Plain(SENT),
+        Part::Plain(
+            b"\">routes sent</a></p>\n<form action=\"/why\"><input type=hidden name=to value=\"",
+        ),
+        Part::Html(member.name),
+        Part::Plain(
+            b"\"><label>Why it is sent what it is for <input name=prefix placeholder=192.0.2.0/24 required></label> <button>Ask</button></form>\n",
+        ),
+    ];
+    put_parts(text, &parts)
 }
 
 /// The target of a page of a member's routes, within HTML.
@@ -160,39 +175,34 @@ pub(crate) fn put_found(
     let mut name = Vec::new(alloc);
     put_prefix(&mut name, prefix)?;
     put_top(text, &name, b"")?;
-    text.extend_from_slice(SEARCH)?;
-    text.extend_from_slice(b"<table>\n<tr><th>Announced by")?;
-    text.extend_from_slice(CELLS)?;
-    text.extend_from_slice(b"<th>It is sent</tr>\n")
-}
-
-/// Puts the link to why a member is sent what it is for a prefix.
-fn put_why_link(
-    text: &mut Vec<u8>,
-    member: &Member<'_>,
-    prefix: &Prefix,
-) -> Result<(), AllocError> {
-    text.extend_from_slice(b"<a href=\"/why?to=")?;
-    put_html(text, member.name)?;
-    text.extend_from_slice(b"&amp;prefix=")?;
-    put_prefix(text, prefix)?;
-    text.extend_from_slice(b"\">why</a>")
+    let parts = [
+        Part::Plain(SEARCH),
+        Part::Plain(b"<table>\n<tr><th>Announced by"),
+        Part::Plain(CELLS),
+        Part::Plain(b"<th>It is sent</tr>\n"),
+    ];
+    put_parts(text, &parts)
 }
 
 /// Puts the row of who announces a prefix.
-pub(crate) fn put_holder(
+pub(crate) fn put_holder<'a>(
     text: &mut Vec<u8>,
-    member: &Member<'_>,
+    member: &Member<'a>,
     prefix: &Prefix,
     attrs: &Attrs,
-    cells: &[u8],
+    cells: &'a [u8],
 ) -> Result<(), AllocError> {
     text.extend_from_slice(b"<tr><td>")?;
     put_named(text, member)?;
-    text.extend_from_slice(b"<td>")?;
-    put_address(text, attrs.next_hop().unwrap_or(0))?;
-    text.extend_from_slice(cells)?;
-    text.extend_from_slice(b"<td>")?;
-    put_why_link(text, member, prefix)?;
-    text.extend_from_slice(b"</tr>\n")
+    let parts = [
+        Part::Plain(b"<td>"),
+        Part::Address(attrs.next_hop().unwrap_or(0)),
+        Part::Plain(cells),
+        Part::Plain(b"<td><a href=\"/why?to="),
+        Part::Html(member.name),
+        Part::Plain(b"&amp;prefix="),
+        Part::Prefix(*prefix),
+        Part::Plain(b"\">why</a></tr>\n"),
+    ];
+    put_parts(text, &parts)
 }
