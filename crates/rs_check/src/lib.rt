@@ -26,7 +26,7 @@ use crate::details::not_utf_8_line;
 use crate::faults::tell_faults;
 use crate::files::{Files, Source};
 use crate::strays::{stray_line, strays_of};
-use crate::warnings::warnings_of;
+use crate::warnings::{Warning, warnings_of};
 use rs_command::Status;
 use rs_command::configuration::{ConfigurationFault, Unconfigured, configuration_of, read_texts};
 use rs_policy::Config;
@@ -71,6 +71,19 @@ fn tell_strays<R: Eprint>(rt: &R, alloc: Global, source: &Source<'_>) -> Result<
     Ok(())
 }
 
+/// Tells each of these warnings.
+fn tell_each<R: Eprint>(
+    rt: &R,
+    alloc: Global,
+    source: &Source<'_>,
+    warnings: &[Warning],
+) -> Result<(), AllocError> {
+    for warning in warnings {
+        tell_line(rt, warning.line(alloc, source))?;
+    }
+    Ok(())
+}
+
 /// Tells what is likely wrong in a good configuration.
 fn tell_warnings<R: Eprint>(
     rt: &R,
@@ -82,9 +95,8 @@ fn tell_warnings<R: Eprint>(
         return Ok(());
     };
     let source = Source { files, text };
-    for warning in &warnings_of(alloc, config, text)? {
-        tell_line(rt, warning.line(alloc, &source))?;
-    }
+    let warnings = warnings_of(alloc, config, text)?;
+    tell_each(rt, alloc, &source, &warnings)?;
     tell_strays(rt, alloc, &source)
 }
 

@@ -35,6 +35,17 @@ fn without(alloc: Global, text: &str, steps: &[Step<'_>]) -> Result<Option<Strin
     }
 }
 
+/// The text without this key of a table.
+fn without_key(
+    alloc: Global,
+    text: &str,
+    table: Table,
+    key: &str,
+) -> Result<Option<String>, AllocError> {
+    let steps = steps_to_key(alloc, table, key)?;
+    without(alloc, text, &steps)
+}
+
 /// The text with another value where the steps lead to.
 fn replaced(
     alloc: Global,
@@ -151,7 +162,7 @@ fn without_stranger(
     let strangers = strangers(alloc, table, entries)?;
     match strangers.first() {
         None => Ok(None),
-        Some(first) => without(alloc, text, &steps_to_key(alloc, table, first)?),
+        Some(first) => without_key(alloc, text, table, first),
     }
 }
 
