@@ -5,7 +5,8 @@
 
 ghost use Rattle.std.specs.Prelude.{◌≡◌, length};
 
-use crate::texts::{put_address, put_hex, put_number};
+use crate::parts::{Part, put_parts};
+use crate::texts::{put_hex, put_number};
 use byteorder::{BigEndian, ByteOrder};
 use rs_attrs::{Attrs, EXTENDED_COMMUNITIES, LARGE_COMMUNITY};
 use std::alloc::{AllocError, Global};
@@ -173,15 +174,21 @@ fn value(attrs: &Attrs, kind: u8) -> &[u8] {
 /// Puts ORIGIN, AS_PATH, NEXT_HOP and MULTI_EXIT_DISC as members of an object; answers whether all of AS_PATH
 /// was put.
 fn put_path_members(text: &mut Vec<u8>, attrs: &Attrs) -> Result<bool, AllocError> {
-    text.extend_from_slice(b"\"origin\":\"")?;
-    text.extend_from_slice(origin_name(attrs.origin().unwrap_or(2)))?;
-    text.extend_from_slice(b"\",\"as_path\":[")?;
+    let front = [
+        Part::Plain(b"\"origin\":\""),
+        Part::Plain(origin_name(attrs.origin().unwrap_or(2))),
+        Part::Plain(b"\",\"as_path\":["),
+    ];
+    put_parts(text, &front)?;
     let has_path = put_path(text, attrs, &JSON)?;
-    text.extend_from_slice(b"],\"next_hop\":\"")?;
-    put_address(text, attrs.next_hop().unwrap_or(0))?;
-    text.extend_from_slice(b"\",\"med\":\"")?;
-    put_number(text, u64::from(attrs.med().unwrap_or(0)))?;
-    text.extend_from_slice(b"\"")?;
+    let behind = [
+        Part::Plain(b"],\"next_hop\":\""),
+        Part::Address(attrs.next_hop().unwrap_or(0)),
+        Part::Plain(b"\",\"med\":\""),
+        Part::Number(u64::from(attrs.med().unwrap_or(0))),
+        Part::Plain(b"\""),
+    ];
+    put_parts(text, &behind)?;
     Ok(has_path)
 }
 
