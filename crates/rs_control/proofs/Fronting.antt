@@ -1,5 +1,5 @@
 -- Where a line ends, or doesn't.
-use Rattle.std.proofs.Common.{◌≡◌, ℕ, Bool, true, false, Option, Some, None, cond, refl, sym, ap, ◌∙◌}
+use Rattle.std.proofs.Common.{◌≡◌, ℕ, Bool, true, false, Option, Some, None, cond, ap}
 use Rattle.rs_control.specs.declared.fronts.Front.{Front}
 use Rattle.rs_control.specs.declared.fronts.Front.TheVariants as fronts
 

@@ -109,6 +109,14 @@ abbrev pub no_command : List ℕ → Meaning
 no_command [] = Refused causes.NoCommand []
 no_command (octet ∷ octets) = Refused causes.UnknownCommand (octet ∷ octets)
 
+-- a command that names no member, with what stands behind it
+abbrev pub server_meaning : List ℕ → List ℕ → Meaning
+server_meaning word rest =
+    if bytes_eq word (codes "reload") then alone rest (Ordered orders.Reload)
+    else (if bytes_eq word (codes "stop") then alone rest (Ordered orders.End)
+    else (if bytes_eq word (codes "help") then alone rest Help
+    else no_command word))
+
 -- a command, with what stands behind it
 abbrev pub command_meaning : Configuration → List ℕ → List ℕ → Meaning
 command_meaning config word rest =
@@ -117,10 +125,7 @@ command_meaning config word rest =
     else (if bytes_eq word (codes "disable") then disable_meaning config rest
     else (if bytes_eq word (codes "enable") then enable_meaning config rest
     else (if bytes_eq word (codes "refresh") then refresh_meaning config rest
-    else (if bytes_eq word (codes "reload") then alone rest (Ordered orders.Reload)
-    else (if bytes_eq word (codes "stop") then alone rest (Ordered orders.End)
-    else (if bytes_eq word (codes "help") then alone rest Help
-    else no_command word)))))))
+    else server_meaning word rest))))
 
 -- a line, without its end
 abbrev pub line_meaning : Configuration → List ℕ → Meaning

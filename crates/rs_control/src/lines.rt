@@ -2,8 +2,9 @@
 
 ghost use Rattle.std.specs.Prelude.{◌≡◌, MatchResult};
 ghost use Rattle.std.specs.List.{before_first, after_first};
-ghost use Rattle.rs_control.specs.Lines.{is_space, is_prefix_octet, are_prefix_octets, unspaced, meaning_of, member_named, named_in, alone, show_of, why_of, why_meaning, disable_meaning, enable_meaning, refresh_meaning, command_meaning, line_meaning};
+ghost use Rattle.rs_control.specs.Lines.{is_space, is_prefix_octet, are_prefix_octets, unspaced, meaning_of, member_named, named_in, alone, show_of, why_of, why_meaning, disable_meaning, enable_meaning, refresh_meaning, server_meaning, command_meaning, line_meaning};
 
+use crate::fronts::position;
 use crate::order::Order;
 use rs_open::ShutdownText;
 use rs_policy::Config;
@@ -68,7 +69,7 @@ fn split_word(text: &[u8]) -> (&[u8], &[u8])
     ensures word { result.0.now ≡ before_first is_space text.now }
     ensures rest { result.1.now ≡ unspaced (after_first is_space text.now) }
 {
-    match text.iter().position(|octet| *octet == b' ') {
+    match position(text, b' ') {
         Some(at) => (&text[..at], unspaced(&text[at + 1..])),
         None => (text, &[]),
     }
@@ -193,6 +194,23 @@ fn refresh<'a>(config: &Config, rest: &'a [u8]) -> Asked<'a>
     }
 }
 
+/// What a command that names no member asks for, with what stands behind it.
+fn server_command<'a>(word: &'a [u8], rest: &'a [u8]) -> Asked<'a>
+    ensures { meaning_of result ≡ server_meaning word.now rest.now }
+{
+    if word == b"reload".as_slice() {
+        alone(rest, Asked::Order(Order::Reload))
+    } else if word == b"stop".as_slice() {
+        alone(rest, Asked::Order(Order::End))
+    } else if word == b"help".as_slice() {
+        alone(rest, Asked::Help)
+    } else if word.is_empty() {
+        Asked::Refused(Cause::NoCommand, word)
+    } else {
+        Asked::Refused(Cause::UnknownCommand, word)
+    }
+}
+
 /// What a command asks for, with what stands behind it.
 fn command<'a>(config: &Config, word: &'a [u8], rest: &'a [u8]) -> Asked<'a>
     ensures { meaning_of result ≡ command_meaning config.now word.now rest.now }
@@ -207,16 +225,8 @@ fn command<'a>(config: &Config, word: &'a [u8], rest: &'a [u8]) -> Asked<'a>
         enable(config, rest)
     } else if word == b"refresh".as_slice() {
         refresh(config, rest)
-    } else if word == b"reload".as_slice() {
-        alone(rest, Asked::Order(Order::Reload))
-    } else if word == b"stop".as_slice() {
-        alone(rest, Asked::Order(Order::End))
-    } else if word == b"help".as_slice() {
-        alone(rest, Asked::Help)
-    } else if word.is_empty() {
-        Asked::Refused(Cause::NoCommand, word)
     } else {
-        Asked::Refused(Cause::UnknownCommand, word)
+        server_command(word, rest)
     }
 }
 

@@ -26,7 +26,7 @@ pub struct Server<'a, P> {
 }
 
 /// An order whose answer is owed, by its number.
-#[derive(Clone, Copy, Debug, PartialEq, Eq)]
+#[derive(Clone, Copy)]
 pub(crate) struct Owed {
     pub(crate) number: u64,
     pub(crate) order: Order,
