@@ -38,10 +38,21 @@ fn line_of(alloc: Global, command: &str) -> Result<Vec<u8>, AllocError> {
 /// Asks the server whose control socket is at this path, and answers all that it says until it closes the
 /// connection.
 pub fn ask<R: Net>(rt: &R, alloc: Global, path: &str, command: &str) -> io::Result<Vec<u8>> {
+    let line = line_of(alloc, command)?;
     let mut stream = UnixStream::connect(rt, path)?;
+    say(&mut stream, &line)?;
+    hear(alloc, &mut stream)
+}
+
+/// Says a line, and nothing more.
+fn say(stream: &mut UnixStream, line: &[u8]) -> io::Result<()> {
     stream.set_read_timeout(Some(Duration::from_secs(PATIENCE)))?;
-    stream.write_all(&line_of(alloc, command)?)?;
-    stream.shutdown(Shutdown::Write)?;
+    stream.write_all(line)?;
+    stream.shutdown(Shutdown::Write)
+}
+
+/// All that comes until the connection is closed, or the most that an answer has.
+fn hear(alloc: Global, stream: &mut UnixStream) -> io::Result<Vec<u8>> {
     let mut answer = Vec::new(alloc);
     let mut piece = [0; 4096];
     for _ in 0..MOST {

@@ -18,7 +18,7 @@ const STEPS: usize = 4;
 const LINGER: u64 = 1000;
 
 /// How far a visitor has come.
-#[derive(Clone, Copy, Debug, PartialEq, Eq)]
+#[derive(Clone, Copy)]
 enum Stage {
     Visits,
     /// The last answer was sent: what comes is passed over, up to this moment.
@@ -65,7 +65,7 @@ impl Visitor {
 
     /// The connection is to be closed.
     pub(crate) fn is_gone(&self) -> bool {
-        self.wire.is_broken || self.stage == Stage::Gone
+        self.wire.is_broken || matches!(self.stage, Stage::Gone)
     }
 
     /// Reads once what the visitor says. Answers whether more may be there.

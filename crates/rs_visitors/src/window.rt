@@ -7,7 +7,7 @@ use mio::net::TcpListener;
 use mio::{Interest, Poll, Token};
 use rs_window::page::Pages;
 use slab::Slab;
-use std::alloc::Global;
+use std::alloc::{AllocError, Global};
 use std::io;
 use std::io::ErrorKind;
 use std::net::{Net, SocketAddr};
@@ -42,6 +42,11 @@ impl Window {
         let mut listener = TcpListener::bind(rt, address)?;
         poll.registry()
             .register(&mut listener, Token(first), Interest::READABLE)?;
+        Ok(Window::new(alloc, first, listener)?)
+    }
+
+    /// A window that was opened, to which nobody has come.
+    fn new(alloc: Global, first: usize, listener: TcpListener) -> Result<Window, AllocError> {
         let mut visitors = Slab::new(alloc);
         visitors.reserve(VISITORS)?;
         Ok(Window {
