@@ -6,14 +6,14 @@ ghost use Rattle.std.specs.Prelude.{◌≡◌, ◌≢◌, ◌↔◌, ◌+◌, �
 use std::mem;
 
 /// An item that is given now, and how many were left out since the last that was.
-#[derive(Clone, Copy, Debug, PartialEq, Eq)]
+#[derive(Debug, Drop, PartialEq, Eq)]
 pub struct Due<T> {
     pub left_out: u64,
     pub item: T,
 }
 
 /// When an item of someone was given last, and what waits to be given.
-#[derive(Clone, Copy, Debug, PartialEq, Eq)]
+#[derive(Clone, Copy, Debug)]
 pub struct RateLimit<T> {
     /// In which second an item was given last.
     second: Option<u64>,

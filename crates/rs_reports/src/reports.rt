@@ -111,7 +111,7 @@ struct Data<'a>(&'a [u8]);
 impl fmt::Display for Data<'_> {
     fn fmt<W: fmt::Write>(&self, f: &mut fmt::Formatter<W>) -> fmt::Result {
         if !self.0.is_empty() {
-            write!(f, ", data ")?;
+            f.write_str(", data ")?;
         }
         for octet in self.0 {
             write!(f, "{octet:02x}")?;
@@ -128,9 +128,11 @@ impl fmt::Display for Said<'_> {
     fn fmt<W: fmt::Write>(&self, f: &mut fmt::Formatter<W>) -> fmt::Result {
         let Said(code, sub, data) = *self;
         match communication_in(code, sub, data) {
-            Some(it) if it.is_whole => write!(f, ", {:?}", it.text),
-            Some(it) => write!(f, ", {:?} and more", it.text),
-            None => write!(f, "{}", Data(data)),
+            Some(it) => {
+                write!(f, ", {:?}", it.text)?;
+                f.write_str(if it.is_whole { "" } else { " and more" })
+            }
+            None => fmt::Display::fmt(&Data(data), f),
         }
     }
 }
