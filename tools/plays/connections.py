@@ -40,8 +40,8 @@ def a_restless_member(program, until):
             return wrong
         most = time.monotonic() - start + 2
         lines = server.stdout.read().decode().splitlines()
-    # Each but the first two comes after the one before has rested, a second or two.
-    if took < SESSIONS - 2:
+    # Each but the first three comes after the one before has rested, a second or two.
+    if took < SESSIONS - 3:
         return f"{begun} sessions began within {took:.1f} seconds"
     kinds = {words: counted(lines, words) for words in ("begin alpha", "busy alpha", "lost alpha", "close alpha", "stranger", "strangers")}
     for words, (count, _) in kinds.items():

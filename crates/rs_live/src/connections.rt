@@ -27,7 +27,7 @@ pub const STALE: u64 = 10;
 /// How many seconds a connection that the server closes has for what waits still.
 pub const CLOSING: u64 = 1;
 
-/// Where a connection lasted less than so many seconds, the client's next one rests.
+/// A connection that lasted less than so many seconds was short: after two in a row the client's next one rests.
 pub const SHORT: u64 = 60;
 
 /// For how many seconds it rests: it is read only where a session might end else. So a client that comes and goes
@@ -246,8 +246,9 @@ pub struct ClientConnections {
     pub is_down: bool,
     /// How many were closed for that since somebody has asked.
     pub kept_out: u64,
-    /// When its last connection began, and up to when its connection rests.
+    /// When its last connection began, whether the last that has ended was short, and up to when one rests.
     pub began: u64,
+    pub was_short: bool,
     pub rests_to: u64,
 }
 
@@ -266,16 +267,18 @@ impl ClientConnections {
         self.began = now;
     }
 
-    /// The connection has ended: where it was short, the next one rests.
+    /// The connection has ended: where it was short, as the one before was, the next one rests.
     pub(crate) fn end(&mut self, now: u64)
         ensures live { self.new.live ≡ self.old.live }
         ensures closing { self.new.closing ≡ self.old.closing }
         ensures down { self.new.is_down ≡ self.old.is_down }
     {
         self.has_ended = true;
-        if now.saturating_sub(self.began) < SHORT {
+        let is_short = now.saturating_sub(self.began) < SHORT;
+        if is_short && self.was_short {
             self.rests_to = now.saturating_add(REST);
         }
+        self.was_short = is_short;
     }
 
     /// The client says these octets: a connection begins with its OPEN.
@@ -397,6 +400,7 @@ pub fn connections(alloc: Global, config: &Config) -> Result<Vec<ClientConnectio
             is_down: false,
             kept_out: 0,
             began: 0,
+            was_short: false,
             rests_to: 0,
         })?;
     }
