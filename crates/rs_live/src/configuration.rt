@@ -32,7 +32,7 @@ fn found(metadata: &Metadata) -> Found {
 }
 
 /// What became of a file that was to be read after a text.
-#[derive(Clone, Copy, Debug, PartialEq, Eq)]
+#[derive(Clone, Copy)]
 enum Behind {
     Whole,
     Changed,

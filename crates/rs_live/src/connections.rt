@@ -5,7 +5,7 @@ ghost use Rattle.std.specs.Prelude.{◌≡◌, ◌≤◌, ◌<◌, ◌++◌, ◌
 ghost use Rattle.rs_live.specs.Calls.{Call};
 ghost use Rattle.rs_live.specs.declared.live_link.Phase.{Phase};
 ghost use Rattle.rs_live.specs.Handled.{Has, AreKept};
-ghost use Rattle.rs_live.specs.Keeping.{Held, change, held_by, held_of, nothing, with_rest};
+ghost use Rattle.rs_live.specs.Keeping.{Held, change, held_by, held_in, held_of, nothing, with_rest};
 ghost use Rattle.rs_reports.specs.Offers.{IsOffered};
 ghost use Rattle.rs_live.specs.Sending.{Broke, Sent};
 
@@ -253,6 +253,28 @@ pub struct ClientConnections {
 }
 
 impl ClientConnections {
+    /// The place of a client that has no connection yet.
+    fn new(alloc: Global, listener: usize, peer: u32) -> Result<ClientConnections, AllocError>
+        ensures { IfOk result (λ own. held_in own ≡ nothing) }
+    {
+        Ok(ClientConnections {
+            listener,
+            peer,
+            live: Connection::new(alloc)?,
+            closing: Connection::new(alloc)?,
+            has_ended: false,
+            is_silent: true,
+            offered: None,
+            busy: 0,
+            refused: None,
+            is_down: false,
+            kept_out: 0,
+            began: 0,
+            was_short: false,
+            rests_to: 0,
+        })
+    }
+
     /// A connection begins, and nothing was heard on it.
     pub(crate) fn begin(&mut self, key: usize, now: u64)
         ensures key { self.new.live.key ≡ Some key }
@@ -269,9 +291,7 @@ impl ClientConnections {
 
     /// The connection has ended: where it was short, as the one before was, the next one rests.
     pub(crate) fn end(&mut self, now: u64)
-        ensures live { self.new.live ≡ self.old.live }
-        ensures closing { self.new.closing ≡ self.old.closing }
-        ensures down { self.new.is_down ≡ self.old.is_down }
+        ensures { held_in self.new ≡ held_in self.old }
     {
         self.has_ended = true;
         let is_short = now.saturating_sub(self.began) < SHORT;
@@ -283,9 +303,7 @@ impl ClientConnections {
 
     /// The client says these octets: a connection begins with its OPEN.
     pub(crate) fn hear(&mut self, octets: &[u8])
-        ensures live { self.new.live ≡ self.old.live }
-        ensures closing { self.new.closing ≡ self.old.closing }
-        ensures down { self.new.is_down ≡ self.old.is_down }
+        ensures held { held_in self.new ≡ held_in self.old }
         ensures silent { self.new.is_silent ≡ false }
         ensures first { self.old.is_silent ≡ true → IsOffered octets.now self.new.offered }
         ensures later { self.old.is_silent ≡ false → self.new.offered ≡ self.old.offered }
@@ -298,9 +316,7 @@ impl ClientConnections {
     /// Its address, and how many connections beside its own were closed since the last call; `None` where
     /// there were none.
     pub(crate) fn take_busy(&mut self) -> Option<(u32, u64)>
-        ensures live { self.new.live ≡ self.old.live }
-        ensures closing { self.new.closing ≡ self.old.closing }
-        ensures down { self.new.is_down ≡ self.old.is_down }
+        ensures held { held_in self.new ≡ held_in self.old }
         ensures taken { self.new.busy ≡ 0 }
         ensures none { self.old.busy ≡ 0 → result ≡ None }
         ensures some { 0 < self.old.busy → result ≡ Some (self.old.peer, self.old.busy) }
@@ -314,9 +330,7 @@ impl ClientConnections {
     /// Its address, and how many of its connections were closed since the last call as it is kept down; `None`
     /// where there were none.
     pub(crate) fn take_kept_out(&mut self) -> Option<(u32, u64)>
-        ensures live { self.new.live ≡ self.old.live }
-        ensures closing { self.new.closing ≡ self.old.closing }
-        ensures down { self.new.is_down ≡ self.old.is_down }
+        ensures held { held_in self.new ≡ held_in self.old }
         ensures taken { self.new.kept_out ≡ 0 }
         ensures none { self.old.kept_out ≡ 0 → result ≡ None }
         ensures some { 0 < self.old.kept_out → result ≡ Some (self.old.peer, self.old.kept_out) }
@@ -329,9 +343,7 @@ impl ClientConnections {
 
     /// This turn was refused memory for the client.
     pub(crate) fn refuse(&mut self, now: u64, turn: u64)
-        ensures live { self.new.live ≡ self.old.live }
-        ensures closing { self.new.closing ≡ self.old.closing }
-        ensures down { self.new.is_down ≡ self.old.is_down }
+        ensures { held_in self.new ≡ held_in self.old }
     {
         let since = match self.refused {
             Some(before) if before.turn.saturating_add(1) >= turn => before.since,
@@ -375,6 +387,12 @@ pub fn listen_addresses(alloc: Global, config: &Config) -> Result<Vec<(u32, u16)
     Ok(all)
 }
 
+/// Which of the distinct `listen` addresses this is.
+fn place(listen_addresses: &[(u32, u16)], address: (u32, u16)) -> usize {
+    let found = listen_addresses.iter().position(|it| *it == address);
+    found.unwrap_or(0)
+}
+
 /// A place for each client of the configuration.
 pub fn connections(alloc: Global, config: &Config) -> Result<Vec<ClientConnections>, AllocError>
     ensures { IfOk result (λ all. (c : ℕ) → held_by c (held_of all.items) ≡ nothing) }
@@ -382,27 +400,8 @@ pub fn connections(alloc: Global, config: &Config) -> Result<Vec<ClientConnectio
     let listen_addresses = listen_addresses(alloc, config)?;
     let mut all = Vec::with_capacity(alloc, config.clients())?;
     for c in 0..config.clients() {
-        let listen = config.listen(c);
-        let listener = listen_addresses
-            .iter()
-            .position(|it| *it == listen)
-            .unwrap_or(0);
-        all.push(ClientConnections {
-            listener,
-            peer: config.peer(c),
-            live: Connection::new(alloc)?,
-            closing: Connection::new(alloc)?,
-            has_ended: false,
-            is_silent: true,
-            offered: None,
-            busy: 0,
-            refused: None,
-            is_down: false,
-            kept_out: 0,
-            began: 0,
-            was_short: false,
-            rests_to: 0,
-        })?;
+        let listener = place(&listen_addresses, config.listen(c));
+        all.push(ClientConnections::new(alloc, listener, config.peer(c))?)?;
     }
     Ok(all)
 }

@@ -88,36 +88,38 @@ impl<'a> Lines<'a> {
     /// Where the lines like this one wait; `None` for those of rules and their file, which don't.
     fn place(&self, line: &Line) -> Option<usize> {
         match line {
-            Line::Rules(_) | Line::File(_) => None,
             Line::Stranger => Some(self.names.count()),
-            Line::Begin(c)
-            | Line::Busy(c)
-            | Line::Disabled(c)
-            | Line::Close(c)
-            | Line::Lost(c)
-            | Line::Memory(c) => Some(*c),
+            _ => Some(of_client(line)?.1),
         }
+    }
+}
+
+/// The word that a line of a client begins with, and the client; `None` for a line that is of none.
+fn of_client(line: &Line) -> Option<(&'static str, usize)> {
+    match line {
+        Line::Begin(c) => Some(("begin", *c)),
+        Line::Busy(c) => Some(("busy", *c)),
+        Line::Disabled(c) => Some(("disabled", *c)),
+        Line::Close(c) => Some(("close", *c)),
+        Line::Lost(c) => Some(("lost", *c)),
+        Line::Memory(c) => Some(("memory", *c)),
+        Line::Stranger | Line::Rules(_) | Line::File(_) => None,
     }
 }
 
 /// A line of each kind as this one's place can have: the losses of service stand before a begin, unless the
 /// last line is one.
 fn kinds(line: &Line) -> [Line; 6] {
-    match line {
-        Line::Begin(c)
-        | Line::Busy(c)
-        | Line::Disabled(c)
-        | Line::Close(c)
-        | Line::Lost(c)
-        | Line::Memory(c) => [
-            Line::Memory(*c),
-            Line::Close(*c),
-            Line::Lost(*c),
-            Line::Busy(*c),
-            Line::Disabled(*c),
-            Line::Begin(*c),
+    match of_client(line) {
+        Some((_, c)) => [
+            Line::Memory(c),
+            Line::Close(c),
+            Line::Lost(c),
+            Line::Busy(c),
+            Line::Disabled(c),
+            Line::Begin(c),
         ],
-        _ => [*line; 6],
+        None => [*line; 6],
     }
 }
 
@@ -148,20 +150,18 @@ impl fmt::Display for Worded<'_> {
 
 /// Prints a line that came so often.
 fn print_line<S: Stream>(output: &mut Printer<S>, names: &Names, line: &Line, count: u64) {
+    if let Some((word, c)) = of_client(line) {
+        output.print(Worded(word, names.name(c), count));
+        return;
+    }
     match line {
-        Line::Begin(c) => output.print(Worded("begin", names.name(*c), count)),
-        Line::Busy(c) => output.print(Worded("busy", names.name(*c), count)),
-        Line::Disabled(c) => output.print(Worded("disabled", names.name(*c), count)),
-        Line::Close(c) => output.print(Worded("close", names.name(*c), count)),
-        Line::Lost(c) => output.print(Worded("lost", names.name(*c), count)),
-        Line::Memory(c) => output.print(Worded("memory", names.name(*c), count)),
-        Line::Stranger if count > 1 => output.print(format_args!("strangers {count}")),
-        Line::Stranger => output.print("stranger"),
         Line::Rules(Ok(())) => output.print("rules accepted"),
         Line::Rules(Err(fault)) => output.print(format_args!("rules refused: {fault}")),
         Line::File(fault) => {
             let (path, colon) = names.before(fault);
             output.print(format_args!("rules refused: {path}{colon}{fault}"));
         }
+        _ if count > 1 => output.print(format_args!("strangers {count}")),
+        _ => output.print("stranger"),
     }
 }

@@ -16,7 +16,7 @@ const EBADF: i32 = 9;
 const ENOTSOCK: i32 = 88;
 
 /// Why there is no connection to accept (accept(2)).
-#[derive(Clone, Copy, Debug, PartialEq, Eq)]
+#[derive(Clone, Copy)]
 enum NoConnection {
     Nothing,
     /// The one that was there was given up, or can't be reached.
@@ -57,7 +57,7 @@ impl Listener {
             Ok(accepted) => Ok(accepted),
             Err(error) => {
                 let why = why_none(&error);
-                self.is_ready = why != NoConnection::Nothing;
+                self.is_ready = !matches!(why, NoConnection::Nothing);
                 Err(why)
             }
         }

@@ -30,7 +30,7 @@ pub(crate) const WIDE: u64 = 2;
 pub(crate) const PARTING: u64 = 5;
 
 /// What a round does next.
-#[derive(Clone, Copy, Debug, PartialEq, Eq)]
+#[derive(Clone, Copy)]
 pub(crate) enum Stage {
     /// Gives the core the text of rules that was read.
     Rules,
@@ -52,7 +52,7 @@ pub(crate) enum Stage {
 }
 
 /// The server is to end.
-#[derive(Clone, Copy, Debug, PartialEq, Eq)]
+#[derive(Clone, Copy)]
 pub(crate) struct Stopping {
     /// What the clock answered in the round in which it was ordered.
     pub(crate) since: u64,
@@ -61,7 +61,7 @@ pub(crate) struct Stopping {
 }
 
 /// How far a round has come.
-#[derive(Clone, Copy, Debug, PartialEq, Eq)]
+#[derive(Clone, Copy)]
 pub(crate) struct Phase {
     pub(crate) stage: Stage,
     /// What the clock answered in this round.

@@ -15,7 +15,7 @@ use crate::recording::Recording;
 use crate::watch::Watch;
 use rs_core::Core;
 use rs_policy::Config;
-use std::alloc::Global;
+use std::alloc::{AllocError, Global};
 use std::sync::Wait;
 use std::thread::Threads;
 use thiserror::Error;
@@ -65,19 +65,20 @@ pub fn serve<R: Threads + Wait + Sync, P: Ports>(
     let Ok(mut connections) = connections(alloc, &config) else {
         return Err(ServeFault::Memory);
     };
-    let Ok(mut watch) = Watch::new(alloc, config.clients()) else {
-        return Err(ServeFault::Memory);
-    };
-    let Ok(mut recording) = Recording::new(alloc, &config) else {
-        return Err(ServeFault::Memory);
-    };
-    let Ok(mut core) = Core::new(alloc, config) else {
+    let Ok((mut watch, mut recording, mut core)) = set_up(alloc, config) else {
         return Err(ServeFault::Memory);
     };
     let mut text = Vec::new(alloc);
     let mut read = Vec::new(alloc);
     let mut link = LiveLink::new(ports, &mut connections, &mut text, &mut read);
     serve_on(rt, limits, &mut watch, &mut recording, &mut core, &mut link)
+}
+
+/// What a run needs beside its connections.
+fn set_up(alloc: Global, config: Config) -> Result<(Watch, Recording, Core), AllocError> {
+    let watch = Watch::new(alloc, config.clients())?;
+    let recording = Recording::new(alloc, &config)?;
+    Ok((watch, recording, Core::new(alloc, config)?))
 }
 
 /// Serves round by round.

@@ -16,7 +16,7 @@ use crate::record::Record;
 use crate::serve::ServeFault;
 use crate::shown::Shown;
 pub use crate::sockets::listening::ListenFault;
-use crate::sockets::listening::{FIRST_LISTENER, open_listeners};
+use crate::sockets::listening::{FIRST_LISTENER, Listening};
 use mio::net::TcpStream;
 use mio::{Events, Interest, Poll, Token};
 use rs_control::order::Order;
@@ -102,20 +102,25 @@ impl<'a, R: Net + Clock + Files> Sockets<'a, R> {
         log: Log,
         addresses: &[(u32, u16)],
     ) -> Result<Sockets<'a, R>, ListenFault> {
-        let mut output = Printer::new(alloc, Descriptor::stdout())?;
-        let errors = Printer::new(alloc, Descriptor::stderr())?;
-        let poll = Poll::new(rt)?;
-        let events = Events::with_capacity(alloc, 1024)?;
-        let listeners = open_listeners(rt, alloc, &poll, &mut output, addresses)?;
+        let start = Instant::now(rt)?;
+        let shown = Shown::new(alloc, names.count(), time_of_day(rt).unwrap_or(0))?;
+        let lines = Lines::new(alloc, names)?;
         let mut streams = Slab::new(alloc);
         streams.reserve(names.count().saturating_mul(2).saturating_add(1))?;
+        let errors = Printer::new(alloc, Descriptor::stderr())?;
+        let Listening {
+            poll,
+            events,
+            listeners,
+            output,
+        } = Listening::open(rt, alloc, addresses)?;
         Ok(Sockets {
             rt,
             alloc,
             configuration: Configuration { rt, alloc, paths },
             watch: FileWatch::new(),
             names,
-            lines: Lines::new(alloc, names)?,
+            lines,
             output,
             errors,
             log,
@@ -123,10 +128,10 @@ impl<'a, R: Net + Clock + Files> Sockets<'a, R> {
             events,
             listeners,
             streams,
-            shown: Shown::new(alloc, names.count(), time_of_day(rt).unwrap_or(0))?,
+            shown,
             control: None,
             is_hurried: false,
-            start: Instant::now(rt)?,
+            start,
             marked: None,
             record: None,
         })

@@ -6,7 +6,7 @@ ghost use Rattle.rs_live.specs.Tallies.{kind_of, counted_in};
 use crate::ports::Line;
 
 /// How many lines of each kind came: `begin`, `busy`, `close`, `lost`, `memory`, `disabled` and all others.
-#[derive(Clone, Copy, Debug, PartialEq, Eq)]
+#[derive(Clone, Copy)]
 pub struct Tally {
     counts: [u64; 7],
 }

@@ -2,7 +2,7 @@
 
 use crate::listeners::Listeners;
 use mio::net::TcpListener;
-use mio::{Interest, Poll, Token};
+use mio::{Events, Interest, Poll, Token};
 use rs_streams::printer::Printer;
 use rs_streams::streams::Descriptor;
 use std::alloc::{AllocError, Global};
@@ -74,19 +74,47 @@ fn open_listener<R: Net>(
 }
 
 /// Listens at these addresses.
-pub(crate) fn open_listeners<R: Net>(
+fn open_listeners<R: Net>(
     rt: &R,
-    alloc: Global,
     poll: &Poll,
     output: &mut Printer<Descriptor>,
+    listeners: &mut Listeners,
     addresses: &[(u32, u16)],
-) -> Result<Listeners, ListenFault> {
-    let mut listeners = Listeners::new(alloc);
+) -> Result<(), ListenFault> {
     for (place, address) in addresses.iter().enumerate() {
         match open_listener(rt, poll, output, place, *address) {
             Ok(listener) => listeners.add(listener)?,
             Err(error) => return Err(ListenFault::at(*address, error)),
         }
     }
-    Ok(listeners)
+    Ok(())
+}
+
+/// Listeners under a poll, and standard output, where it was said of each.
+pub(crate) struct Listening {
+    pub(crate) poll: Poll,
+    pub(crate) events: Events,
+    pub(crate) listeners: Listeners,
+    pub(crate) output: Printer<Descriptor>,
+}
+
+impl Listening {
+    /// Listens at these addresses and says so, a line each.
+    pub(crate) fn open<R: Net>(
+        rt: &R,
+        alloc: Global,
+        addresses: &[(u32, u16)],
+    ) -> Result<Listening, ListenFault> {
+        let events = Events::with_capacity(alloc, 1024)?;
+        let mut output = Printer::new(alloc, Descriptor::stdout())?;
+        let poll = Poll::new(rt)?;
+        let mut listeners = Listeners::new(alloc);
+        open_listeners(rt, &poll, &mut output, &mut listeners, addresses)?;
+        Ok(Listening {
+            poll,
+            events,
+            listeners,
+            output,
+        })
+    }
 }

@@ -1,23 +1,12 @@
-use Rattle.std.proofs.Common.{◌≡◌, ◌<◌, Some, None, ap, refl, subst, sym}
+use Rattle.std.proofs.Common.{◌≡◌, ◌<◌, Some, None, refl, subst, sym}
 use Rattle.std.specs.Prelude.{IfSome}
 use Rattle.std.proofs.lemmas.Option.{slice_get_read}
 use Rattle.rs_live.specs.declared.connections.ClientConnections.{ClientConnections}
-use Rattle.rs_live.specs.declared.connections.Connection.{Connection}
-use Rattle.rs_live.proofs.Places.{held_same, parts}
+use Rattle.rs_live.proofs.Places.{held_same}
 use Rattle.rs_live.proofs.live_link.LiveLink.take_busy.Goals as goal
 
 pub returns-in-Some-clause-leaves : goal.returns-in-Some-clause-leaves
-returns-in-Some-clause-leaves g c =
-    let live = c.take_busy.ensures.live in
-    let closing = c.take_busy.ensures.closing in
-    record {
-      same_ports = refl;
-      failed = refl;
-      held = held_same _ _ c.in-Some.own.now _ (slice_get_read _ _ _ c.in-Some.own.now refl c.in-Some.ensures.item.3.0 c.in-Some.ensures.item.1)
-          (parts (ap (λ (x : Connection). x.key) live) (ap (λ (x : Connection). x.out) live) (ap (λ (x : Connection). x.key) closing) (ap (λ (x : Connection). x.out) closing) c.take_busy.ensures.down);
-      phase = refl;
-      unasked = refl;
-    }
+returns-in-Some-clause-leaves g c = record { same_ports = refl; failed = refl; held = held_same _ _ c.in-Some.own.now _ (slice_get_read _ _ _ c.in-Some.own.now refl c.in-Some.ensures.item.3.0 c.in-Some.ensures.item.1) c.take_busy.ensures.held; phase = refl; unasked = refl }
 
 pub returns-in-Some-clause-none : goal.returns-in-Some-clause-none
 returns-in-Some-clause-none g c = subst (λ o. IfSome o (λ (own : ClientConnections). own.busy ≡ 0 → c.take_busy.result ≡ None)) (sym (slice_get_read _ _ _ c.in-Some.own.now refl c.in-Some.ensures.item.3.0 c.in-Some.ensures.item.1)) c.take_busy.ensures.none
