@@ -35,7 +35,7 @@ use std::marker::Model;
 
 /// Where more than one in so many prefixes may be stale, all may be: a list of them would take more
 /// memory than it saves time.
-const STALE_SHARE: usize = 4;
+const STALE_SHARE: usize = 2;
 
 /// One client's Adj-RIB-Out: what is due to it, what it was told, and the message in flight.
 ///
