@@ -18,8 +18,9 @@ use rs_core::{Event, Link, Source};
 /// who connects over and over keeps the server from those that are connected.
 const ACCEPTED: u32 = 64;
 
-/// Where a round has read so many pieces, it begins with the first connection no more.
-const PIECES: u32 = 16;
+/// Where a round has read so many pieces, it begins with the first connection no more: what came since it began is
+/// read in the next one, and waits for one who sends without end no longer than a turn takes.
+const PIECES: u32 = 3;
 
 /// While at most so many octets were heard since the last turn, more is read before the next: so it is at most
 /// three pieces of 4,096 octets, which name some 3,000 prefixes of 24 bits.
