@@ -110,38 +110,16 @@ impl Connection {
     }
 
     /// Hands octets to the connection, as much as there is room for, and answers how many: they wait
-    /// until all before them is written. Where there is no room, what waits is written first; where that
-    /// fails the error is the key.
-    pub fn offer<P: Ports>(
-        &mut self,
-        ports: &mut P,
-        octets: &[u8],
-        now: u64,
-    ) -> Result<usize, usize>
-        ensures count { IfOk result (λ n. n ≤ length octets.now) }
+    /// until all before them is written.
+    pub fn offer(&mut self, octets: &[u8], now: u64) -> usize
+        ensures count { result ≤ length octets.now }
         ensures key { self.new.key ≡ self.old.key }
-        ensures taken { IfOk result (λ n. (calls : List Call) → P.asked ports.old calls → Sent P.asked self.old.key calls self.old.out ports.new (λ waiting. self.new.out ≡ waiting ++ take n octets.now)) }
-        ensures broke { IfErr result (λ key. (calls : List Call) → P.asked ports.old calls → Broke P.asked key self.old.key calls self.old.out ports.new self.new.out) }
+        ensures behind { self.new.out ≡ self.old.out ++ take result octets.now }
     {
-        self.make_room(ports, now)?;
         if self.out.is_empty() {
             self.since = now;
         }
-        Ok(self.out.put(octets))
-    }
-
-    /// Writes what waits where there is no room; where that fails the error is the key.
-    fn make_room<P: Ports>(&mut self, ports: &mut P, now: u64) -> Result<(), usize>
-        ensures key { self.new.key ≡ self.old.key }
-        ensures sent { IsOk result → (calls : List Call) → P.asked ports.old calls → Sent P.asked self.old.key calls self.old.out ports.new (λ waiting. self.new.out ≡ waiting) }
-        ensures broke { IfErr result (λ key. (calls : List Call) → P.asked ports.old calls → Broke P.asked key self.old.key calls self.old.out ports.new self.new.out) }
-    {
-        if !self.out.is_full() {
-            return Ok(());
-        }
-        self.write(ports, now)?;
-        self.out.make_room();
-        Ok(())
+        self.out.put(octets)
     }
 
     /// Writes what waits, until the socket takes no more; where that fails the error is the key.

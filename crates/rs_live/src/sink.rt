@@ -1,11 +1,11 @@
 //! What the core calls, as calls of the ports.
 
-ghost use Rattle.std.specs.Prelude.{◌≡◌, ◌≤◌, ◌∷◌, Some, None, length, IfOk, IfErr, IsSome, IsNone};
+ghost use Rattle.std.specs.Prelude.{◌≡◌, ◌≤◌, ◌∷◌, Some, None, length, IsSome, IsNone};
 ghost use Rattle.rs_core.specs.Drives.Steps.{Begin, Offer, End};
 ghost use Rattle.rs_live.specs.declared.live_link.Phase.{Phase};
 ghost use Rattle.rs_live.specs.declared.ports.Incoming.{Incoming};
 ghost use Rattle.rs_live.specs.Operations.{Did};
-ghost use Rattle.rs_live.specs.Handled.{Has, AreKept, IsBroken, Keeps, KeepsAfter};
+ghost use Rattle.rs_live.specs.Handled.{Has, AreKept, Keeps, KeepsAfter};
 ghost use Rattle.rs_live.specs.Keeping.{all_held, at, held_by, key_come};
 ghost use Rattle.rs_live.specs.Leaving.{LeavesRound, SamePorts};
 
@@ -46,17 +46,15 @@ impl<'a, P: Ports> LiveLink<'a, P> {
         }
     }
 
-    /// Hands octets to a client's connection, and answers how many there was room for; where a write
-    /// fails the error is the key.
-    fn hand(&mut self, c: usize, octets: &[u8]) -> Result<usize, usize>
+    /// Hands octets to a client's connection, and answers how many there was room for.
+    fn hand(&mut self, c: usize, octets: &[u8]) -> usize
         ensures leaves { LeavesRound self.old self.new }
-        ensures count { IfOk result (λ n. n ≤ length octets.now) }
-        ensures ok { IfOk result (λ n. Keeps P.asked self.old → KeepsAfter P.asked (Offer c octets.now (Some n)) self.new) }
-        ensures broke { IfErr result (λ key. Keeps P.asked self.old → IsBroken P.asked c key self.new) }
+        ensures count { result ≤ length octets.now }
+        ensures kept { Keeps P.asked self.old → KeepsAfter P.asked (Offer c octets.now (Some result)) self.new }
     {
         match self.connections.get_mut(c) {
-            Some(own) if own.live.is_open() => own.live.offer(self.ports, octets, self.phase.told),
-            _ => Ok(0),
+            Some(own) if own.live.is_open() => own.live.offer(octets, self.phase.told),
+            _ => 0,
         }
     }
 
@@ -103,16 +101,9 @@ impl<'a, P: Ports> Sink for LiveLink<'a, P> {
     }
 
     fn offer(&mut self, c: usize, octets: &[u8]) -> Option<usize> {
-        match self.hand(c, octets) {
-            Ok(n) => {
-                self.observe(Observed::Sent(c, &octets[..n]));
-                Some(n)
-            }
-            Err(key) => {
-                self.lose(c, key);
-                None
-            }
-        }
+        let count = self.hand(c, octets);
+        self.observe(Observed::Sent(c, &octets[..count]));
+        Some(count)
     }
 
     fn memory(&mut self, c: usize) {

@@ -1,6 +1,5 @@
 -- What is known behind a call of the ports, or a step of the core's link, in other words.
-use Rattle.std.proofs.Common.{◌≡◌, ℕ, Bool, true, false, List, [], ◌∷◌, Result, Ok, Err, refl, sym, subst, ◌∙◌}
-use Rattle.std.specs.Prelude.{IfOk, IfErr}
+use Rattle.std.proofs.Common.{◌≡◌, ℕ, Bool, true, false, List, [], ◌∷◌, refl, sym, subst, ◌∙◌}
 use Rattle.rs_core.specs.declared.links.Event.TheVariants.{Stop}
 use Rattle.rs_core.specs.Drives.Steps.{Step, Happened}
 use Rattle.rs_live.specs.declared.live_link.LiveLink.{LiveLink}
@@ -53,16 +52,6 @@ ends asked Is held phase a b call m is plain h = more asked (AreKept held phase)
 -- of the end alone
 pub end_alone : {P : Type 0} (asked : P → List Call → Type 0) (Is : Call → Type 0) (held : List Held) (phase : Phase) (p : P) → Has asked p (AreEndedBy Is held phase) → Has asked p (EndBy Is)
 end_alone asked Is held phase p h = so asked (AreEndedBy Is held phase) (EndBy Is) p (λ operations k. k.0) h
-
--- what holds where a result is an error, in other words
-pub so_err : {T E : Type 0} (Is So : E → Type 0) (result : Result T E) → ((fault : E) → Is fault → So fault) → IfErr result Is → IfErr result So
-so_err Is So (Ok value) f h = h
-so_err Is So (Err fault) f h = f fault h
-
--- what holds of a good result, in other words
-pub so_ok : {T E : Type 0} (Is So : T → Type 0) (result : Result T E) → ((value : T) → Is value → So value) → IfOk result Is → IfOk result So
-so_ok Is So (Ok value) f h = f value h
-so_ok Is So (Err fault) f h = h
 
 -- nothing was asked
 pub unasked : {P : Type 0} (asked : P → List Call → Type 0) (p : P) → asked p [] → Has asked p (λ operations. operations ≡ [])

@@ -15,7 +15,7 @@ use Rattle.rs_live.specs.Keeping.{Held, Agrees, at, change, held_by, nothing, wi
 use Rattle.rs_live.specs.Handled.{IsLossOf, AreHandled, Takes, Sends, Breaks, SendsRest, Drops, Closes, EndByWrite, ByWrite, Has, AreKept, AreBroken}
 use Rattle.rs_live.proofs.Changing.{ended, no_some}
 use Rattle.rs_live.proofs.Agreeing.Connections.{agrees_offer, handed_more, agrees_wrote, taken_from, agrees_wrote_rest, taken_from_rest, agrees_closed}
-use Rattle.rs_live.proofs.Places.{at_place, below_change, change_again, unchanged}
+use Rattle.rs_live.proofs.Places.{change_again, unchanged}
 use Rattle.rs_live.proofs.Handling.Calls.{AsksMore, AsksTwo, so, did, more, two_more}
 use Rattle.rs_live.proofs.Handling.Connections.{lost_so}
 
@@ -155,17 +155,12 @@ waits_written asked held phase c key now_key first now a b e o same sent h =
     let at : with_live (held_by c held).key w.0 (held_by c held) ≡ with_live now_key now (held_by c held) = ap (λ k. with_live k w.0 (held_by c held)) (e ∙ sym same) ∙ ap (λ x. with_live now_key x (held_by c held)) (sym w.1.0) in
     so asked (AreKept (change c (waits_so w.0) held) phase) (AreKept (change c (with_live now_key now) held) phase) b (λ operations k. subst (λ x. AreKept (set held c x) phase operations) at k) w.1.1
 
--- what waited was written, and more waits now
-pub takes_all : {P : Type 0} (asked : P → List Call → Type 0) (held : List Held) (phase : Phase) (c n : ℕ) (octets : List ℕ) (key now_key : Option ℕ) (first now : List ℕ) (a b : P) → c < length held → (held_by c held).key ≡ key → (held_by c held).waiting ≡ first → now_key ≡ key → IsSome key → ((cs : List Call) → asked a cs → Sent asked key cs first b (λ w. now ≡ w ++ take n octets)) → Has asked a (AreKept held phase) → Has asked b (λ operations. AreKept (change c (with_live now_key now) held) phase (Did (Offer c octets (Some n)) ∷ operations))
-takes_all asked held phase c n octets key now_key first now a b below e o same some sent h =
-    let w = sends_all asked held phase c key first a b (λ w. now ≡ w ++ take n octets) e o sent h in
-    let mid = change c (waits_so w.0) held in
-    let more : Held → Held = λ x. with_live x.key (w.0 ++ take n octets) x in
-    let there = at_place (waits_so w.0) held c below in
-    let at : more (held_by c held) ≡ with_live now_key now (held_by c held) = ap (λ k. with_live k (w.0 ++ take n octets) (held_by c held)) (e ∙ sym same) ∙ ap (λ x. with_live now_key x (held_by c held)) (sym w.1.0) in
-    let last = takes asked mid phase c n octets b (λ ge. absurd (omega (arith, ge, below_change (waits_so w.0) held c below))) (λ none. absurd (no_some key (sym e ∙ sym (ap (λ x. x.key) there) ∙ none) some)) w.1.1 in
-    so asked (λ operations. AreKept (change c (handed_more (take n octets)) mid) phase (Did (Offer c octets (Some n)) ∷ operations)) (λ operations. AreKept (change c (with_live now_key now) held) phase (Did (Offer c octets (Some n)) ∷ operations)) b
-    (λ operations k. subst (λ x. AreKept (set held c x) phase (Did (Offer c octets (Some n)) ∷ operations)) at (subst (λ hs. AreKept hs phase (Did (Offer c octets (Some n)) ∷ operations)) (change_again (waits_so w.0) (handed_more (take n octets)) more held c (λ x. refl)) k)) last
+-- more waits than did
+pub takes_more : {P : Type 0} (asked : P → List Call → Type 0) (held : List Held) (phase : Phase) (c n : ℕ) (octets : List ℕ) (key now_key : Option ℕ) (first now : List ℕ) (p : P) → c < length held → (held_by c held).key ≡ key → (held_by c held).waiting ≡ first → now_key ≡ key → IsSome key → now ≡ first ++ take n octets → Has asked p (AreKept held phase) → Has asked p (λ operations. AreKept (change c (with_live now_key now) held) phase (Did (Offer c octets (Some n)) ∷ operations))
+takes_more asked held phase c n octets key now_key first now p below e o same some rest h =
+    let at : handed_more (take n octets) (held_by c held) ≡ with_live now_key now (held_by c held) = ap (λ k. with_live k ((held_by c held).waiting ++ take n octets) (held_by c held)) (e ∙ sym same) ∙ ap (λ w. with_live now_key w (held_by c held)) (ap (λ w. w ++ take n octets) o ∙ sym rest) in
+    subst (λ x. Has asked p (λ operations. AreKept (set held c x) phase (Did (Offer c octets (Some n)) ∷ operations))) at
+    (takes asked held phase c n octets p (λ ge. absurd (omega (arith, ge, below))) (λ none. absurd (no_some key (sym e ∙ none) some)) h)
 
 -- an offer that takes nothing
 pub takes_none : {P : Type 0} (asked : P → List Call → Type 0) (held : List Held) (phase : Phase) (c : ℕ) (octets : List ℕ) (p : P) → Has asked p (AreKept held phase) → Has asked p (λ operations. AreKept held phase (Did (Offer c octets (Some 0)) ∷ operations))

@@ -104,15 +104,15 @@ fn takes(rt: &impl Abort, out: &mut Outbox, octets: &[u8], count: usize) {
 #[test]
 fn a_message_is_begun_with_an_octet(rt: HostRuntime) {
     let mut out = Outbox::new(rt.alloc()).expect(&rt, "an outbox");
-    let whole = Vec::from_elem(rt.alloc(), 7, 65_536).expect(&rt, "octets");
+    let whole = Vec::from_elem(rt.alloc(), 7, 16_384).expect(&rt, "octets");
     // The room is used up by a whole message. Of the next one an octet is taken, and then no more.
-    takes(&rt, &mut out, &whole, 65_536);
+    takes(&rt, &mut out, &whole, 16_384);
     holds(&rt, out.is_full(), "it is full");
     takes(&rt, &mut out, KEEPALIVE, 1);
     takes(&rt, &mut out, &KEEPALIVE[1..], 0);
-    is(&rt, out.waiting().len(), 65_537, "octets that wait");
+    is(&rt, out.waiting().len(), 16_385, "octets that wait");
     // Once there is room again it goes on where it was.
-    out.took(65_537);
+    out.took(16_385);
     takes(&rt, &mut out, &KEEPALIVE[1..], 18);
     is(&rt, out.waiting(), &KEEPALIVE[1..], "what waits");
 }
