@@ -4,5 +4,4 @@ pub mod Handling
 pub mod Places
 pub mod Rounds
 pub mod Sending
-pub mod Showing
 pub mod Noticed

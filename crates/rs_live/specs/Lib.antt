@@ -8,7 +8,4 @@ pub mod Leaving
 pub mod Moments
 pub mod Rounds
 pub mod Sending
-pub mod Shown
-pub mod Tallies
 pub mod Waiting
-pub mod Given

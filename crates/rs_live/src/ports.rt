@@ -1,5 +1,5 @@
 //! What the server asks of the outside, as one trait: connections, a clock, a file, and places to
-//! print. Nothing else of the crate but its sockets reaches further.
+//! print. Nothing of the crate reaches further.
 
 ghost use Rattle.std.specs.Prelude.{◌≡◌, ◌≤◌, ◌∷◌, ℕ, Bool, List, IfOk, IfSome, length};
 ghost use Rattle.rs_live.specs.Calls.{Call, Waited, Accepted, Read, Wrote, Closed, Timed, Fetched, Ordered, Printed, Logged};

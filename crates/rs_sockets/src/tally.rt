@@ -1,9 +1,9 @@
 //! How many lines of each kind came, so that none is left out where one is printed for several.
 
 ghost use Rattle.std.specs.Prelude.{◌≡◌, ◌≢◌, ◌+◌, ◌<◌};
-ghost use Rattle.rs_live.specs.Tallies.{kind_of, counted_in};
+ghost use Rattle.rs_sockets.specs.Tallies.{kind_of, counted_in};
 
-use crate::ports::Line;
+use rs_live::ports::Line;
 
 /// How many lines of each kind came: `begin`, `busy`, `close`, `lost`, `memory`, `disabled` and all others.
 #[derive(Clone, Copy)]

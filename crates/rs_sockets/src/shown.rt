@@ -4,12 +4,12 @@
 ghost use Rattle.std.specs.Prelude.{◌≡◌, ◌++◌, option_to_list};
 
 use crate::core_tables::CoreTables;
-use crate::ports::{Line, Observed};
 use mio::Poll;
 use rs_control::order::Order;
 use rs_control::orders::Reloaded;
 use rs_control::steps::Server;
 use rs_core::Core;
+use rs_live::ports::{Line, Observed};
 use rs_pages::counts::Direction;
 use rs_pages::moments::{Changes, Moments};
 use rs_pages::server_pages::ServerPages;
@@ -32,7 +32,7 @@ pub(crate) struct Shown {
 }
 
 impl Shown {
-    ghost use Rattle.rs_live.specs.Given.{due_to};
+    ghost use Rattle.rs_sockets.specs.Given.{due_to};
 
     /// A server of so many members, which is shown nowhere yet.
     pub(crate) fn new(alloc: Global, members: usize, start: u64) -> Result<Shown, AllocError> {

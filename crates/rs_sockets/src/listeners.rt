@@ -1,7 +1,7 @@
 //! The listeners, which take turns, so that none that is much asked for keeps the others waiting.
 
-use crate::ports::PortFault;
 use mio::net::{TcpListener, TcpStream};
+use rs_live::ports::PortFault;
 use std::alloc::{AllocError, Global};
 use std::io::ErrorKind;
 use std::net::SocketAddr;
