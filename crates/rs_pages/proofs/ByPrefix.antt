@@ -5,18 +5,18 @@ use Rattle.rs_octets.specs.Prefixes.{Prefix}
 use Rattle.rs_policy.specs.Configuration.{Configuration}
 use Rattle.rs_outlet.specs.declared.answers.Speech.{Speech}
 use Rattle.rs_window.specs.declared.page.Page.{Page}
-use Rattle.rs_pages.specs.declared.tables.Rib.{Rib}
-use Rattle.rs_pages.specs.declared.views.View.{View}
-use Rattle.rs_pages.specs.declared.views.View.TheVariants as views
-use Rattle.rs_pages.specs.declared.views.Listing.{Listing}
-use Rattle.rs_pages.specs.declared.views.Stage.{Stage}
-use Rattle.rs_pages.specs.declared.views.Stage.TheVariants as stages
+use Rattle.rs_page_parts.specs.declared.tables.Rib.{Rib}
+use Rattle.rs_page_parts.specs.declared.views.View.{View}
+use Rattle.rs_page_parts.specs.declared.views.View.TheVariants as views
+use Rattle.rs_page_parts.specs.declared.views.Listing.{Listing}
+use Rattle.rs_page_parts.specs.declared.views.Stage.{Stage}
+use Rattle.rs_page_parts.specs.declared.views.Stage.TheVariants as stages
+use Rattle.rs_page_parts.specs.Holders.{Holding}
+use Rattle.rs_page_parts.specs.Keys.{IsAt}
+use Rattle.rs_page_parts.specs.Views.{counted_of, is_head, listing_of, read_which}
 use Rattle.rs_pages.specs.Candidates.{next_candidate, next_holder, ranks_to, sent_outcome}
-use Rattle.rs_pages.specs.Holders.{Holding}
-use Rattle.rs_pages.specs.Keys.{IsAt}
-use Rattle.rs_pages.specs.Listings.{First, IsBehindHead, IsHead, IsHolderItem, IsHolderRow, IsItem, IsListed, IsRouteItem, IsWhyItem, behind_holder, behind_member, why_text}
+use Rattle.rs_pages.specs.Listings.{First, IsBehindHead, IsHead, IsHolderItem, IsHolderRow, IsItem, IsListed, IsRouteItem, IsWhyItem, behind_holder, behind_member, comma_text, why_text}
 use Rattle.rs_pages.specs.Counting.{IsCountItem}
-use Rattle.rs_pages.specs.Views.{comma_text, counted_of, is_head, listing_of, read_which}
 use Rattle.rs_pages.specs.Why.{told_text}
 
 module _ (configured : Configuration → Type 0) (holders : Prefix → List Holding → Type 0) (stage : Stage) (page : Page) (q p : Prefix) (s : Configuration) (held : List Holding) (is : configured s) (are : holders q held) (same : q ≡ p) where

@@ -5,11 +5,11 @@ use Rattle.rs_octets.specs.Prefixes.{Prefix}
 use Rattle.rs_attrs.specs.Meaning.{Attribute}
 use Rattle.rs_policy.specs.Configuration.{Configuration}
 use Rattle.rs_window.specs.declared.page.Page.{Page}
-use Rattle.rs_pages.specs.declared.tables.Rib.{Rib}
-use Rattle.rs_pages.specs.declared.tables.Rib.TheVariants as ribs
-use Rattle.rs_pages.specs.declared.views.View.{View}
-use Rattle.rs_pages.specs.Holders.{Holding}
-use Rattle.rs_pages.specs.Judging.{IsGiven, is_client}
+use Rattle.rs_page_parts.specs.declared.tables.Rib.{Rib}
+use Rattle.rs_page_parts.specs.declared.tables.Rib.TheVariants as ribs
+use Rattle.rs_page_parts.specs.declared.views.View.{View}
+use Rattle.rs_page_parts.specs.Holders.{Holding}
+use Rattle.rs_page_parts.specs.Members.{IsGiven, is_client}
 use Rattle.rs_pages.specs.Counting.{IsCountItem, IsPreferred, IsTold, Counted, Told, Over, counting, behind_count}
 
 module _ (firsts : Rib → ℕ → ℕ → Option (Prefix × List Attribute) → Type 0) (configured : Configuration → Type 0) (holders : Prefix → List Holding → Type 0) (view : View) (page : Page) (c : ℕ) where

@@ -5,10 +5,10 @@ use Rattle.rs_octets.specs.Prefixes.{Prefix}
 use Rattle.rs_attrs.specs.Meaning.{Attribute}
 use Rattle.rs_policy.specs.Configuration.{Configuration}
 use Rattle.rs_window.specs.declared.page.Page.{Page}
-use Rattle.rs_pages.specs.declared.tables.Rib.{Rib}
-use Rattle.rs_pages.specs.declared.views.View.{View}
-use Rattle.rs_pages.specs.declared.views.Listing.{Listing}
-use Rattle.rs_pages.specs.declared.views.Stage.{Stage}
+use Rattle.rs_page_parts.specs.declared.tables.Rib.{Rib}
+use Rattle.rs_page_parts.specs.declared.views.View.{View}
+use Rattle.rs_page_parts.specs.declared.views.Listing.{Listing}
+use Rattle.rs_page_parts.specs.declared.views.Stage.{Stage}
 use Rattle.rs_pages.specs.Listings.{First, IsRow, IsNext, IsRouteItem, IsBehindTable, IsEnd, IsLast, Lists, Row, PassedOver, Behind, Onward, End, behind_route, passing_over, next_table, first_of}
 
 module _ (firsts : Rib → ℕ → First) (configured : Configuration → Type 0) (view : View) (listing : Listing) (page : Page) where

@@ -12,10 +12,10 @@ use Rattle.rs_decision.specs.declared.losing.Step.{Step}
 use Rattle.rs_decision.specs.Losing.{lost_by}
 use Rattle.rs_outlet.specs.declared.answers.Speech.{Speech}
 use Rattle.rs_outlet.specs.Decided.Due.{if_fits}
+use Rattle.rs_page_parts.specs.Holders.{Holding}
+use Rattle.rs_page_parts.specs.Members.{is_client}
 use Rattle.rs_pages.specs.declared.candidates.Outcome.{Outcome}
 use Rattle.rs_pages.specs.declared.candidates.Outcome.TheVariants as outcomes
-use Rattle.rs_pages.specs.Holders.{Holding}
-use Rattle.rs_pages.specs.Judging.{is_client}
 
 -- a holder is a member of the configuration, this one or a later one
 abbrev pub is_from : Configuration → ℕ → Holding → Bool

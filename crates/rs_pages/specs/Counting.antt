@@ -1,5 +1,5 @@
 -- Which routes of a member's are preferred, and how they are counted.
-use Rattle.std.specs.Prelude.{◌≡◌, ◌<◌, length, slice_index_or, ℕ, ◌+◌, ◌==◌, min, Bool, true, false, List, [], ◌++◌, Option, Some, None, option_map, unwrap_or, if◌then◌else◌, codes, decimal}
+use Rattle.std.specs.Prelude.{◌≡◌, ◌<◌, length, slice_index_or, ℕ, ◌+◌, ◌==◌, min, Bool, true, false, List, [], ◌++◌, Option, Some, None, option_map, unwrap_or, if◌then◌else◌, codes}
 use Rattle.std.specs.List.{filter_map}
 use Rattle.rs_octets.specs.Prefixes.{Prefix}
 use Rattle.rs_attrs.specs.Meaning.{Attribute}
@@ -7,16 +7,17 @@ use Rattle.rs_policy.specs.Configuration.{Configuration}
 use Rattle.rs_decision.specs.declared.rank.Rank.{Rank}
 use Rattle.rs_decision.specs.Choice.{best_of}
 use Rattle.rs_window.specs.declared.page.Page.{Page}
-use Rattle.rs_pages.specs.declared.views.View.{View}
-use Rattle.rs_pages.specs.declared.views.View.TheVariants as views
-use Rattle.rs_pages.specs.declared.views.Stage.TheVariants as stages
-use Rattle.rs_pages.specs.declared.tables.Rib.{Rib}
-use Rattle.rs_pages.specs.declared.tables.Rib.TheVariants as ribs
+use Rattle.rs_page_parts.specs.declared.views.View.{View}
+use Rattle.rs_page_parts.specs.declared.views.View.TheVariants as views
+use Rattle.rs_page_parts.specs.declared.views.Stage.TheVariants as stages
+use Rattle.rs_page_parts.specs.declared.tables.Rib.{Rib}
+use Rattle.rs_page_parts.specs.declared.tables.Rib.TheVariants as ribs
+use Rattle.rs_page_parts.specs.Holders.{Holding}
+use Rattle.rs_page_parts.specs.Keys.{key_of}
+use Rattle.rs_page_parts.specs.Members.{IsGiven, is_client, counts_text}
+use Rattle.rs_page_parts.specs.Views.{which_of}
 use Rattle.rs_pages.specs.Candidates.{rank_with, rising_from}
-use Rattle.rs_pages.specs.Holders.{Holding}
-use Rattle.rs_pages.specs.Judging.{IsGiven, is_accepted, is_client}
-use Rattle.rs_pages.specs.Keys.{key_of}
-use Rattle.rs_pages.specs.Views.{which_of}
+use Rattle.rs_pages.specs.Judging.{is_accepted}
 
 -- the rank of a route that its import list passes; each has the preference that its row shows
 abbrev pub import_rank : Configuration → Prefix → Holding → Option Rank
@@ -50,19 +51,7 @@ abbrev pub behind_count : View → Page → ℕ → Option Page
 behind_count views.Protocols page c = Some (record page { which = which_of views.Protocols stages.Rest; member = c + 1; at = 0; counted = 0 })
 behind_count view page c = None
 
-abbrev pub numbered : List ℕ → ℕ → List ℕ
-numbered name number = name ++ decimal number
-
--- how many routes, as birdwatcher has it
-unfoldable pub counts_text : ℕ → ℕ → ℕ → ℕ → List ℕ
-counts_text imported filtered exported preferred =
-    numbered (codes "\"routes\":{\"imported\":") imported
-    ++ numbered (codes ",\"filtered\":") filtered
-    ++ numbered (codes ",\"exported\":") exported
-    ++ numbered (codes ",\"preferred\":") preferred
-    ++ codes "}}\n"
-
--- what closes the page behind them
+-- what closes the page behind a member's counts
 abbrev pub closing_text : View → List ℕ
 closing_text views.Protocol = codes "}}\n"
 closing_text view = []

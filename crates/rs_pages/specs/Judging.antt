@@ -1,20 +1,11 @@
 -- What the rules keep from members.
-use Rattle.std.specs.Prelude.{◌≡◌, ℕ, ◌==◌, nat_lt, Bool, true, false, not, ◌&&◌, List, length, is_some}
+use Rattle.std.specs.Prelude.{ℕ, ◌==◌, Bool, true, false, not, ◌&&◌, List, is_some}
 use Rattle.rs_octets.specs.Prefixes.{Prefix}
 use Rattle.rs_attrs.specs.Meaning.{Attribute}
 use Rattle.rs_policy.specs.Configuration.{Configuration}
 use Rattle.rs_policy.specs.Noted.{import_outcome}
 use Rattle.rs_policy.specs.Verdicts.{Judgement, dropped, passed, verdict}
-
--- it is one of the configuration's clients
-abbrev pub is_client : Configuration → ℕ → Bool
-is_client s c = nat_lt c (length s.clients)
-
--- an answer that the configuration gives
-pub record IsGiven (configured : Configuration → Type 0) (answer : Configuration → Bool) (given : Bool) : Type 0 where
-  pub config : Configuration
-  pub is : configured config
-  pub given_is : given ≡ answer config
+use Rattle.rs_page_parts.specs.Members.{is_client}
 
 abbrev pub is_dropped : Judgement → Bool
 is_dropped dropped = true

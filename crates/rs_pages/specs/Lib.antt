@@ -1,13 +1,6 @@
-pub mod Texts
-pub mod Keys
-pub mod Firsts
 pub mod Judging
-pub mod Holders
 pub mod Candidates
 pub mod Why
 pub mod Rows
-pub mod Views
 pub mod Counting
 pub mod Listings
-pub mod Updates
-pub mod Traffic

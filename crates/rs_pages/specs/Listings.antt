@@ -7,22 +7,29 @@ use Rattle.rs_outlet.specs.declared.answers.Speech.{Speech}
 use Rattle.rs_window.specs.declared.page.Page.{Page}
 use Rattle.rs_window.specs.declared.page.Next.{Next}
 use Rattle.rs_window.specs.declared.page.Next.TheVariants.{More, Last, Cut}
-use Rattle.rs_pages.specs.declared.views.View.{View}
-use Rattle.rs_pages.specs.declared.views.View.TheVariants as views
-use Rattle.rs_pages.specs.declared.views.Listing.{Listing}
-use Rattle.rs_pages.specs.declared.views.Listing.TheVariants as listings
-use Rattle.rs_pages.specs.declared.views.Stage.{Stage}
-use Rattle.rs_pages.specs.declared.views.Stage.TheVariants as stages
-use Rattle.rs_pages.specs.declared.tables.Rib.{Rib}
-use Rattle.rs_pages.specs.Keys.{key_of, IsAt}
-use Rattle.rs_pages.specs.Holders.{Holding}
+use Rattle.rs_page_parts.specs.declared.views.View.{View}
+use Rattle.rs_page_parts.specs.declared.views.View.TheVariants as views
+use Rattle.rs_page_parts.specs.declared.views.Listing.{Listing}
+use Rattle.rs_page_parts.specs.declared.views.Listing.TheVariants as listings
+use Rattle.rs_page_parts.specs.declared.views.Stage.{Stage}
+use Rattle.rs_page_parts.specs.declared.views.Stage.TheVariants as stages
+use Rattle.rs_page_parts.specs.declared.tables.Rib.{Rib}
+use Rattle.rs_page_parts.specs.Keys.{key_of, IsAt}
+use Rattle.rs_page_parts.specs.Holders.{Holding}
+use Rattle.rs_page_parts.specs.Members.{IsGiven}
+use Rattle.rs_page_parts.specs.Texts.{prefix_text}
+use Rattle.rs_page_parts.specs.Views.{is_head, which_of, read_which, listing_of, counted_of, table_of, owner_of}
 use Rattle.rs_pages.specs.Candidates.{next_holder, next_candidate}
 use Rattle.rs_pages.specs.Why.{candidate_text}
 use Rattle.rs_pages.specs.Rows.{row_text, table_row, more_text}
-use Rattle.rs_pages.specs.Judging.{IsGiven, is_accepted, is_filtered, is_kept_from}
+use Rattle.rs_pages.specs.Judging.{is_accepted, is_filtered, is_kept_from}
 use Rattle.rs_pages.specs.Counting.{IsCountItem}
-use Rattle.rs_pages.specs.Texts.{prefix_text}
-use Rattle.rs_pages.specs.Views.{is_head, which_of, read_which, listing_of, counted_of, table_of, owner_of, comma_text}
+
+-- what stands before an item
+abbrev pub comma_text : Stage → List ℕ
+comma_text stages.Head = []
+comma_text stages.First = []
+comma_text stages.Rest = codes ","
 
 -- of a table: the first route from a number on, or that there is none
 abbrev pub First : Type 1

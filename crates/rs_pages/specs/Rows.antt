@@ -3,7 +3,7 @@ use Rattle.std.specs.Prelude.{ℕ, List, ◌++◌, codes, decimal, unwrap_or}
 use Rattle.rs_octets.specs.Prefixes.{Prefix}
 use Rattle.rs_attrs.specs.Meaning.{Attribute}
 use Rattle.rs_attrs.specs.Getters.{next_hop_of}
-use Rattle.rs_pages.specs.Texts.{address_text, prefix_text}
+use Rattle.rs_page_parts.specs.Texts.{address_text, prefix_text}
 
 -- what a row begins with: the prefix, and NEXT_HOP
 unfoldable pub network_text : Prefix → ℕ → List ℕ

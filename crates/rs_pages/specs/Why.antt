@@ -9,11 +9,11 @@ use Rattle.rs_decision.specs.declared.losing.Step.{Step}
 use Rattle.rs_decision.specs.declared.losing.Step.TheVariants as steps
 use Rattle.rs_outlet.specs.declared.answers.Speech.{Speech}
 use Rattle.rs_reasons.specs.Why.{Account, Told, by_default, by_own, by_used, import_account, export_account}
+use Rattle.rs_page_parts.specs.Holders.{Holding}
+use Rattle.rs_page_parts.specs.Texts.{address_text, json_text}
 use Rattle.rs_pages.specs.declared.candidates.Outcome.{Outcome}
 use Rattle.rs_pages.specs.declared.candidates.Outcome.TheVariants as outcomes
 use Rattle.rs_pages.specs.Candidates.{ranks_to, sent_outcome}
-use Rattle.rs_pages.specs.Holders.{Holding}
-use Rattle.rs_pages.specs.Texts.{address_text, json_text}
 
 abbrev pub list_text : RuleList → List ℕ
 list_text lists.Import = codes "import"

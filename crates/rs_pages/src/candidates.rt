@@ -4,16 +4,16 @@ ghost use Rattle.std.specs.Prelude.{◌≡◌, ◌<◌, ◌==◌, ◌++◌, List
 ghost use Rattle.std.specs.List.{cons_option};
 ghost use Rattle.rs_decision.specs.Best.{HasDistinctPlaces};
 ghost use Rattle.rs_decision.specs.declared.rank.Rank.{Rank};
+ghost use Rattle.rs_page_parts.specs.Holders.{holding};
 ghost use Rattle.rs_pages.specs.Candidates.{by_rank, has_server_as, is_too_long, next_candidate, next_holder, outcome_of, rank_to, rank_with, ranks_to, rising_from, sent_outcome};
 ghost use Rattle.rs_pages.specs.Counting.{AreBefore};
-ghost use Rattle.rs_pages.specs.Holders.{holding};
 
-use crate::tables::Holder;
 use rs_attrs::stripped;
 use rs_decision::{Rank, Step, lost_by};
 use rs_octets::Prefix;
 use rs_outlet::Speech;
 use rs_packer::fits;
+use rs_page_parts::tables::Holder;
 use rs_policy::{Config, Fate, judge};
 use std::alloc::{AllocError, Global};
 

@@ -2,14 +2,14 @@
 
 ghost use Rattle.std.specs.Prelude.{◌≡◌, ◌<◌, map, IfOk, IfSome};
 ghost use Rattle.rs_decision.specs.Best.{HasDistinctPlaces};
-ghost use Rattle.rs_pages.specs.Holders.{holding};
+ghost use Rattle.rs_page_parts.specs.Holders.{holding};
 ghost use Rattle.rs_pages.specs.Counting.{import_rank, import_ranks, is_preferred};
 
 use crate::candidates::{push_rising, rank_with};
 use crate::judging::is_accepted;
-use crate::tables::Holder;
 use rs_decision::{Rank, best};
 use rs_octets::Prefix;
+use rs_page_parts::tables::Holder;
 use rs_policy::Config;
 use std::alloc::{AllocError, Global};
 

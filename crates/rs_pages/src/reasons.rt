@@ -3,14 +3,14 @@
 ghost use Rattle.std.specs.Prelude.{◌≡◌, ◌<◌, ◌++◌, length, option_map, OnOk};
 ghost use Rattle.rs_decision.specs.Best.{HasDistinctPlaces};
 ghost use Rattle.rs_reasons.specs.Why.{cause_said, said};
+ghost use Rattle.rs_page_parts.specs.Holders.{holding};
 ghost use Rattle.rs_pages.specs.Candidates.{sent_outcome};
-ghost use Rattle.rs_pages.specs.Holders.{holding};
 ghost use Rattle.rs_pages.specs.Why.{account_text, asked_text, cause_text, export_text, list_text, outcome_text, passes_text, rules_text, sender_text, step_text, told_text};
 
 use crate::candidates::{Outcome, Question, sent_outcome};
-use crate::tables::Holder;
-use crate::texts::{put_address, put_json, put_number};
 use rs_decision::{Rank, Step};
+use rs_page_parts::tables::Holder;
+use rs_page_parts::texts::{put_address, put_json, put_number};
 use rs_policy::{Config, List};
 use rs_reasons::{Cause, Reason, explain};
 use std::alloc::{AllocError, Global};

@@ -3,9 +3,9 @@
 ghost use Rattle.std.specs.Prelude.{◌≡◌, ◌++◌, OnOk};
 ghost use Rattle.rs_pages.specs.Rows.{network_text, row_text, table_row, from_text, more_text};
 
-use crate::texts::{put_address, put_number, put_prefix};
 use rs_attrs::Attrs;
 use rs_octets::Prefix;
+use rs_page_parts::texts::{put_address, put_number, put_prefix};
 use std::alloc::AllocError;
 
 /// Puts what a row begins with: the prefix, and NEXT_HOP.

@@ -1,26 +1,26 @@
 //! The pages, written an item at a time: a head, items, and an end.
 
 ghost use Rattle.std.specs.Prelude.{◌≡◌, ℕ, [], Some, IfOk, OnOk};
-ghost use Rattle.rs_pages.specs.Views.{counted_of, most_items};
+ghost use Rattle.rs_page_parts.specs.Views.{counted_of, most_items};
 
 mod counts;
 mod course;
 mod listings;
 
-use crate::attributes::cells_text;
 use crate::candidates::{Question, next_candidate, next_holder, ranks_to};
-use crate::heads::{put_question, put_table};
-use crate::keys::prefix_at;
-use crate::members::member_at;
-use crate::metrics::{Metric, put_server};
-use crate::moments::Moments;
-use crate::people::{put_found, put_holder, put_routes};
 use crate::reasons::put_candidate;
 use crate::server_pages::course::{behind_member, comma, next_of_head, stopped};
-use crate::tables::{Holder, Rib, Tables};
-use crate::targets::find_page;
-use crate::views::{Item, Listing, Stage, View, most_items};
 use rs_octets::Prefix;
+use rs_page_parts::attributes::cells_text;
+use rs_page_parts::heads::{put_count, put_list, put_question, put_status, put_table};
+use rs_page_parts::keys::prefix_at;
+use rs_page_parts::members::{member_at, put_member_row};
+use rs_page_parts::metrics::{Metric, put_server};
+use rs_page_parts::moments::Moments;
+use rs_page_parts::people::{put_found, put_holder, put_home, put_member, put_routes};
+use rs_page_parts::tables::{Holder, Rib, Tables};
+use rs_page_parts::targets::find_page;
+use rs_page_parts::views::{Item, Listing, Stage, View, most_items};
 use rs_window::page::{Next, PIECE, Page, Pages, Piece};
 use std::alloc::{AllocError, Global};
 
@@ -33,11 +33,11 @@ pub struct ServerPages<'a, T> {
 }
 
 impl<'a, T: Tables> ServerPages<'a, T> {
+    ghost use Rattle.rs_page_parts.specs.Holders.{holding};
+    ghost use Rattle.rs_page_parts.specs.Keys.{IsAt};
     ghost use Rattle.rs_pages.specs.Listings.{IsHead, IsItem, IsListed, IsHolderItem, IsWhyItem, IsBehindHead, Writes};
-    ghost use Rattle.rs_pages.specs.Counting.{IsCountItem};
-    ghost use Rattle.rs_pages.specs.Holders.{holding};
     ghost use Rattle.rs_octets.specs.Prefixes.{Prefix};
-    ghost use Rattle.rs_pages.specs.Keys.{IsAt};
+    ghost use Rattle.rs_pages.specs.Counting.{IsCountItem};
 
     pub fn new(alloc: Global, tables: &'a T, moments: &'a Moments<'a>) -> ServerPages<'a, T> {
         ServerPages {
@@ -51,13 +51,18 @@ impl<'a, T: Tables> ServerPages<'a, T> {
     fn put_front(&self, view: View, page: Page, text: &mut Vec<u8>) -> Result<(), AllocError> {
         let tables = self.tables;
         match view {
-            View::Home => self.put_home(text),
-            View::Member => self.put_member(text, page.place),
-            View::Status => self.put_status(text),
-            View::Count => self.put_count(text, page.place),
-            View::Protocols | View::Protocol => self.put_list(text, b"\"protocols\":{"),
+            View::Home => put_home(text, self.alloc, tables, self.moments),
+            View::Member => put_member(text, self.alloc, tables, self.moments, page.place),
+            View::Status => put_status(text, self.alloc, tables, self.moments),
+            View::Count => put_count(text, self.alloc, tables, self.moments, page.place),
+            View::Protocols | View::Protocol => put_list(
+                text,
+                self.alloc,
+                self.moments,
+                b"\"protocols\":{",
+            ),
             View::Routes | View::Filtered | View::NoExport | View::AtPrefix => {
-                self.put_list(text, b"\"routes\":[")
+                put_list(text, self.alloc, self.moments, b"\"routes\":[")
             }
             View::Received => put_table(text, tables, page.place, b"received"),
             View::Sent => put_table(text, tables, page.place, b"sent"),
@@ -88,7 +93,7 @@ impl<'a, T: Tables> ServerPages<'a, T> {
             text.extend_from_slice(b"</table>\n</html>\n")?;
             return Ok(None);
         };
-        self.put_member_row(text, &member)?;
+        put_member_row(text, self.alloc, self.tables, self.moments, &member)?;
         Ok(Some(behind_member(View::Home, page, member.place)))
     }
 
@@ -283,7 +288,7 @@ impl<'a, T: Tables> ServerPages<'a, T> {
 }
 
 impl<T: Tables> Pages for ServerPages<'_, T> {
-    ghost use Rattle.rs_pages.specs.Views.{most_items};
+    ghost use Rattle.rs_page_parts.specs.Views.{most_items};
     ghost use Rattle.rs_pages.specs.Listings.{IsItem, Writes};
 
     ghost finds = { λ pages target page. Unit {0} };

@@ -16,8 +16,8 @@ use Rattle.rs_core.specs.Run.Moves.{Move}
 use Rattle.rs_core.specs.Told.Points.{latest}
 use Rattle.rs_core.specs.declared.route_server.Core.{Core}
 use Rattle.rs_core.proofs.Told.InTurn.{has_what_was_due}
-use Rattle.rs_pages.specs.Keys.{key_of}
-use Rattle.rs_pages.proofs.Firsts.{AreLeft, begun}
+use Rattle.rs_page_parts.specs.Keys.{key_of}
+use Rattle.rs_page_parts.proofs.Firsts.{AreLeft, begun}
 use Rattle.rs_sockets.specs.Shown.{due_last, speech_with}
 
 nothing : (b : Bool) (o : Option (List Attribute)) → o ≡ None → o ≡ (if b then o else None)

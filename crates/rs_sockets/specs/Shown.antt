@@ -14,10 +14,10 @@ use Rattle.rs_core.specs.Run.Meaning.{dues, hearing, is_established, speech_in, 
 use Rattle.rs_core.specs.Run.Moves.{Move, config_in}
 use Rattle.rs_core.specs.Told.Points.{latest}
 use Rattle.rs_core.specs.declared.route_server.Core.{Core}
-use Rattle.rs_pages.specs.Firsts.{IsFirst}
-use Rattle.rs_pages.specs.Holders.{Holding}
-use Rattle.rs_pages.specs.declared.tables.Rib.{Rib}
-use Rattle.rs_pages.specs.declared.tables.Rib.TheVariants as ribs
+use Rattle.rs_page_parts.specs.Firsts.{IsFirst}
+use Rattle.rs_page_parts.specs.Holders.{Holding}
+use Rattle.rs_page_parts.specs.declared.tables.Rib.{Rib}
+use Rattle.rs_page_parts.specs.declared.tables.Rib.TheVariants as ribs
 
 -- the Loc-RIB of a client: what was due to it at its last turn since it is Established
 abbrev pub due_last : List Move → ℕ → Prefix → Option (List Attribute)

@@ -1,4 +1,4 @@
-//! Tests of `rs_pages`: pages over tables in memory, piece by piece.
+//! Tests of `rs_pages` and `rs_page_parts`: pages over tables in memory, piece by piece.
 
 mod counted;
 mod prefixes;
@@ -12,10 +12,10 @@ use rs_attrs::{Attrs, Mode};
 use rs_octets::Prefix;
 use rs_open::Limit;
 use rs_outlet::Speech;
-use rs_pages::keys::key;
-use rs_pages::moments::{Changes, Moments};
+use rs_page_parts::keys::key;
+use rs_page_parts::moments::{Changes, Moments};
+use rs_page_parts::tables::{Ended, Faults, Holder, Rib, Tables};
 use rs_pages::server_pages::ServerPages;
-use rs_pages::tables::{Ended, Faults, Holder, Rib, Tables};
 use rs_policy::Config;
 use rs_window::page::{Page, Pages, Piece};
 use std::alloc::{AllocError, Global};

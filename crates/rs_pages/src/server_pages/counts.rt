@@ -4,12 +4,12 @@ ghost use Rattle.std.specs.Prelude.{◌≡◌, ◌<◌, [], IfOk, OnOk};
 ghost use Rattle.rs_pages.specs.Counting.{closing_text};
 
 use crate::counting::is_preferred;
-use crate::members::{Member, imported, member_at, put_counts};
 use crate::server_pages::ServerPages;
 use crate::server_pages::course::{behind_count, comma, counting};
-use crate::tables::{Rib, Tables};
-use crate::views::{Stage, View};
 use rs_octets::Prefix;
+use rs_page_parts::members::{Member, imported, member_at, put_counts, put_protocol};
+use rs_page_parts::tables::{Rib, Tables};
+use rs_page_parts::views::{Stage, View};
 use rs_window::page::Page;
 use std::alloc::AllocError;
 
@@ -37,7 +37,7 @@ impl<'a, T: Tables> ServerPages<'a, T> {
         ensures { OnOk result (IsTold view preferred text.new.items) }
     {
         text.extend_from_slice(comma(stage))?;
-        self.put_protocol(text, member)?;
+        put_protocol(text, self.alloc, self.tables, self.moments, member)?;
         let imported = imported(self.tables, member);
         let filtered = self.tables.dropped(member.place) as u64;
         let exported = self.tables.count(Rib::Sent, member.place) as u64;

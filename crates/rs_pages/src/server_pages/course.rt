@@ -2,12 +2,11 @@
 
 ghost use Rattle.std.specs.Prelude.{◌≡◌, ◌+◌, ◌<◌, nat_le, false};
 ghost use Rattle.rs_pages.specs.Counting.{behind_count, counting};
-ghost use Rattle.rs_pages.specs.Views.{comma_text};
-ghost use Rattle.rs_pages.specs.Listings.{IsHead, behind_head, behind_member, behind_route, passing_over, next_table, stopped};
+ghost use Rattle.rs_pages.specs.Listings.{IsHead, comma_text, behind_head, behind_member, behind_route, passing_over, next_table, stopped};
 
-use crate::keys::key;
-use crate::views::{Stage, View};
 use rs_octets::Prefix;
+use rs_page_parts::keys::key;
+use rs_page_parts::views::{Stage, View};
 use rs_window::page::{Next, Page, Piece};
 
 /// The page behind its head.

@@ -3,18 +3,18 @@
 ghost use Rattle.std.specs.Prelude.{◌≡◌, ◌<◌, false, [], option_map, IfOk, OnOk};
 ghost use Rattle.std.specs.Arc.{arc_value};
 
-use crate::attributes::{bgp_text, cells_text};
 use crate::judging::{is_accepted, is_filtered, is_kept_from};
-use crate::members::member_at;
-use crate::people::target_of;
 use crate::routes::{put_more, put_row, put_table_row};
 use crate::server_pages::ServerPages;
 use crate::server_pages::course::{behind_route, comma, is_last_of, next_table, passing_over};
-use crate::tables::{Rib, Tables};
-use crate::texts::put_prefix;
-use crate::views::{Item, Listing, Stage, View};
 use rs_attrs::Attrs;
 use rs_octets::Prefix;
+use rs_page_parts::attributes::{bgp_text, cells_text};
+use rs_page_parts::members::{member_at, put_origin};
+use rs_page_parts::people::target_of;
+use rs_page_parts::tables::{Rib, Tables};
+use rs_page_parts::texts::put_prefix;
+use rs_page_parts::views::{Item, Listing, Stage, View};
 use rs_window::page::Page;
 use std::alloc::AllocError;
 use std::sync::Arc;
@@ -119,7 +119,7 @@ impl<'a, T: Tables> ServerPages<'a, T> {
         if rib == Rib::Received
             && let Some(member) = member_at(self.tables, member)
         {
-            self.put_origin(&mut common, &member)?;
+            put_origin(&mut common, self.alloc, self.moments, &member)?;
         }
         Ok(common)
     }

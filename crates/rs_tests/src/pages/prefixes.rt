@@ -2,7 +2,7 @@
 
 use crate::common::{equals, is, prefix};
 use crate::pages::{found, let_go, server};
-use rs_pages::keys::{key, prefix_at};
+use rs_page_parts::keys::{key, prefix_at};
 use std::process::Abort;
 
 /// Texts of prefixes, and what they spell: bits and length.

@@ -1,6 +1,6 @@
 use Rattle.std.proofs.Common.{◌≡◌, map, drop}
+use Rattle.rs_page_parts.specs.Holders.{holding}
 use Rattle.rs_pages.specs.Candidates.{next_holder}
-use Rattle.rs_pages.specs.Holders.{holding}
 use Rattle.rs_pages.proofs.candidates.next_holder.Given as goal
 
 -- the first is among those that are left

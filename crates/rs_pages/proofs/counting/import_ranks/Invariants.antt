@@ -1,9 +1,9 @@
 use Rattle.std.proofs.Common.{◌≡◌, ◌++◌, map, drop}
 use Rattle.std.specs.List.{filter_map}
 use Rattle.rs_decision.specs.Best.{HasDistinctPlaces}
+use Rattle.rs_page_parts.specs.Holders.{holding}
 use Rattle.rs_pages.specs.Counting.{AreBefore, import_rank, import_ranks}
 use Rattle.rs_pages.specs.Candidates.{rising_from}
-use Rattle.rs_pages.specs.Holders.{holding}
 use Rattle.rs_pages.proofs.counting.import_ranks.Given as goal
 
 -- no two have the same place, each has one before the next, and those that are left complete the whole

@@ -1,6 +1,6 @@
 use Rattle.std.proofs.Common.{length, refl, sym, subst, arith}
 use Rattle.rs_window.specs.declared.page.Next.TheVariants.{More}
-use Rattle.rs_pages.specs.Views.{most_items}
+use Rattle.rs_page_parts.specs.Views.{most_items}
 use Rattle.rs_pages.specs.Listings.{IsItem, Writes, Enough}
 use Rattle.rs_pages.proofs.Pieces.{stops, fills, ends, goes_on}
 use Rattle.rs_pages.proofs.server_pages.ServerPages.put_items.Goals as goal

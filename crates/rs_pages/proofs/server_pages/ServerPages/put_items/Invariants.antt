@@ -1,4 +1,4 @@
-use Rattle.rs_pages.specs.Views.{most_items}
+use Rattle.rs_page_parts.specs.Views.{most_items}
 use Rattle.rs_pages.specs.Listings.{IsItem}
 use Rattle.rs_pages.proofs.Pieces.{Completes}
 use Rattle.rs_pages.proofs.server_pages.ServerPages.put_items.Given as goal

@@ -1,6 +1,6 @@
 use Rattle.std.proofs.Common.{◌∙◌, ap, map, option_map, rules}
+use Rattle.rs_page_parts.specs.Holders.{holding}
 use Rattle.rs_pages.specs.Candidates.{next_candidate}
-use Rattle.rs_pages.specs.Holders.{holding}
 use Rattle.rs_pages.proofs.ByPrefix.{told}
 use Rattle.rs_pages.proofs.server_pages.ServerPages.put_next_candidate.Goals as goal
 

@@ -1,6 +1,6 @@
 use Rattle.std.proofs.Common.{◌∙◌, ap, map, option_map}
+use Rattle.rs_page_parts.specs.Holders.{holding}
 use Rattle.rs_pages.specs.Candidates.{next_holder}
-use Rattle.rs_pages.specs.Holders.{holding}
 use Rattle.rs_pages.proofs.ByPrefix.{one_more}
 use Rattle.rs_pages.proofs.server_pages.ServerPages.put_next_holder.Goals as goal
 

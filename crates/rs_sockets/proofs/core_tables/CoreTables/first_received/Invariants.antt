@@ -2,7 +2,7 @@ use Rattle.std.proofs.Common.{List}
 use Rattle.rs_core.specs.Run.Agreeing.{Agrees}
 use Rattle.rs_core.specs.Run.Moves.{Move}
 use Rattle.rs_core.specs.Run.Meaning.{table}
-use Rattle.rs_pages.proofs.Firsts.{AreLeft}
+use Rattle.rs_page_parts.proofs.Firsts.{AreLeft}
 use Rattle.rs_sockets.proofs.core_tables.CoreTables.first_received.Given as goal
 
 -- what is left is the table, from the number on

@@ -1,7 +1,7 @@
 use Rattle.std.proofs.Common.{arith, subst, sym}
 use Rattle.rs_sockets.specs.Shown.{due_last}
 use Rattle.rs_sockets.proofs.Showing.{begun_due}
-use Rattle.rs_pages.proofs.Firsts.{AreLeft, passed, found, emptied}
+use Rattle.rs_page_parts.proofs.Firsts.{AreLeft, passed, found, emptied}
 use Rattle.rs_sockets.proofs.core_tables.CoreTables.first_sent.Goals as goal
 
 pub loop-prefix-init : goal.loop-prefix-init

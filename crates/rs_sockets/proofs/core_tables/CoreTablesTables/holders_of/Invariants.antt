@@ -2,7 +2,7 @@ use Rattle.std.proofs.Common.{◌≡◌, ◌++◌, List, map}
 use Rattle.rs_core.specs.Run.Agreeing.{Agrees}
 use Rattle.rs_core.specs.Run.Candidates.{candidates_in}
 use Rattle.rs_core.specs.Run.Moves.{Move}
-use Rattle.rs_pages.specs.Holders.{holding}
+use Rattle.rs_page_parts.specs.Holders.{holding}
 use Rattle.rs_sockets.specs.Shown.{holding_of}
 use Rattle.rs_sockets.proofs.core_tables.CoreTablesTables.holders_of.Given as goal
 

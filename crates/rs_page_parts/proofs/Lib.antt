@@ -1,0 +1,3 @@
+pub mod Firsts
+mod Counted
+mod Rows
