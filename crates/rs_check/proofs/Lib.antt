@@ -1,2 +1,1 @@
-mod Places
 mod Untested

@@ -1,9 +1,9 @@
 //! The line that says more of a fault: where it is, what stands there, and what is expected.
 
 use crate::files::{Files, Position, Source};
-use crate::find::{Spot, Step};
 use crate::forms::{form, strangers, uses_others};
-use crate::place::{entries_of, spot, steps_to, steps_to_key, steps_to_table, value_at};
+use crate::place::{entries_of, spot, steps_to, steps_to_key, steps_to_table};
+use rs_places::{Spot, Step, value_at};
 use rs_policy::{ConfigFault, Key, Place, Table, known_keys};
 use std::alloc::{AllocError, Global};
 use std::fmt;

@@ -1,6 +1,6 @@
 //! The files whose texts were joined, and where in which of them something stands.
 
-use crate::place::line_and_column;
+use rs_places::line_and_column;
 use rs_texts::Joined;
 use std::fmt;
 

@@ -1,43 +1,10 @@
 //! Where a value of a document stands in its text. The text was read as a document before, so what
 //! isn't found here is spelt in another way than configurations are.
 
+use rs_places::{Spot, Step};
 use std::alloc::{AllocError, AllocFailed, Global};
 use toml_parser::text::{byte_at, first, skip, skip_blank, skip_ws};
 use toml_parser::{Key, ParseError, dotted_key, quoted, starts_string, unquoted};
-
-/// A step on the way to a value.
-#[derive(Clone, Copy)]
-pub(crate) enum Step<'a> {
-    /// The value at a key of a table.
-    Key(&'a str),
-    /// A value of an array, counted from 0.
-    Item(usize),
-}
-
-/// Where something stands in a text. All are numbers of octets before it.
-#[derive(Clone, Copy)]
-pub(crate) enum Spot {
-    /// A value and its key. A value of an array has no key, and `key` is where it begins.
-    Value {
-        key: usize,
-        start: usize,
-        stop: usize,
-    },
-    /// The header of a table.
-    Header {
-        start: usize,
-        stop: usize,
-    },
-}
-
-impl Spot {
-    /// Where it begins: a value behind its key.
-    pub(crate) fn start(&self) -> usize {
-        match self {
-            Spot::Value { start, .. } | Spot::Header { start, .. } => *start,
-        }
-    }
-}
 
 /// Why nothing is found.
 #[derive(Clone, Copy)]

@@ -2,10 +2,10 @@
 //! all the same; or its faults, with where they are, what stands there and what is expected.
 //!
 //! `files` knows in which file a place of the text lies that they are together, and `strays` what belongs to
-//! a table of the file before its own. `find` finds a value in the text of a document, and `place` the value at a place of a configuration;
-//! `forms` has the keys and the forms of their values, `details` the line about a fault, `mending` the text
-//! without it, by which the next one is found, `faults` those that are told, and `warnings` what is good but likely
-//! wrong.
+//! a table of the file before its own. `find` looks for a value in the text of a document, and `place` for the
+//! one at a place of a configuration, which has `rs_places` try what was found. `forms` has the keys and the
+//! forms of their values, `details` the line about a fault, `mending` the text without it, by which the next one
+//! is found, `faults` those that are told, and `warnings` what is good but likely wrong.
 #![tactic(auto)]
 
 mod details;

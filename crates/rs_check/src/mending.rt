@@ -1,8 +1,8 @@
 //! The text of a configuration with a fault mended, by which the next one is found.
 
-use crate::find::{Spot, Step};
 use crate::forms::strangers;
-use crate::place::{entries_of, found, steps_to, steps_to_key, steps_to_table, with};
+use crate::place::{entries_of, found, steps_to, steps_to_key, steps_to_table};
+use rs_places::{Spot, Step, with};
 use rs_policy::{ConfigFault, Key, Place, Table};
 use std::alloc::{AllocError, Global};
 use toml::value::Value;

@@ -8,8 +8,8 @@ ghost use Rattle.rs_check.specs.Warnings.{MatchesAll, has_key, test_keys};
 
 use crate::details::position_of;
 use crate::files::Source;
-use crate::find::Step;
-use crate::place::{document_of, steps_to, steps_to_table};
+use crate::place::{steps_to, steps_to_table};
+use rs_places::{Step, document_of};
 use rs_policy::{Config, Key, List, Place, Table};
 use std::alloc::{AllocError, Global};
 use std::fmt;

@@ -2,7 +2,7 @@
 use Rattle.std.proofs.Common.{◌≡◌, ℕ, ◌+◌, ◌<◌, List, [], ◌∷◌, length, take, get_or, suc, arith}
 use Rattle.std.proofs.lemmas.List.Sums.{fold-append}
 use Rattle.std.proofs.Math.Seq.{take-suc}
-use Rattle.rs_check.specs.Positions.{moved, place_behind}
+use Rattle.rs_places.specs.Positions.{moved, place_behind}
 
 pub place_behind-more : (octets : List ℕ) (i d : ℕ) → i < length octets → place_behind (take (i + 1) octets) ≡ moved (place_behind (take i octets)) (get_or octets i d)
 place_behind-more octets i d h =

@@ -1,6 +1,6 @@
 use Rattle.std.proofs.Common.{◌≡◌, ◌≤◌, ◌+◌, take}
-use Rattle.rs_check.specs.Positions.{place_behind}
-use Rattle.rs_check.proofs.place.line_and_column.Given as goal
+use Rattle.rs_places.specs.Positions.{place_behind}
+use Rattle.rs_places.proofs.lines.line_and_column.Given as goal
 
 -- the place behind the octets that were passed
 abbrev pub invariant-loop-octet : goal.invariant-loop-octet

@@ -2,9 +2,9 @@
 use Rattle.std.specs.Prelude.{ℕ, ◌+◌, Bool, false, ◌&&◌, not, ◌==◌, nat_le, nat_lt, List, [], ◌∷◌, ◌++◌, take, drop, fold, codes, bytes_eq, Option, Some, option_and_then, if◌then◌else◌}
 use Rattle.toml.specs.Data.{Data, table, string, get, at}
 use Rattle.toml.specs.Parse.{parse_document}
-use Rattle.rs_check.specs.declared.find.Step.{Step}
-use Rattle.rs_check.specs.declared.find.Step.TheVariants as S
-use Rattle.rs_check.specs.declared.find.Spot.{Spot}
+use Rattle.rs_places.specs.declared.steps.Step.{Step}
+use Rattle.rs_places.specs.declared.steps.Step.TheVariants as S
+use Rattle.rs_places.specs.declared.marks.Spot.{Spot}
 
 -- an octet of UTF-8 that begins no character
 abbrev pub goes_on : ℕ → Bool

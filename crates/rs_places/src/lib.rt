@@ -1,0 +1,14 @@
+//! Where the values of a document stand in its text, as far as that is proved: whoever looks for one has
+//! what was found tried here.
+//!
+//! `steps` leads to a value of a document, `marks` tries whether the steps to it lead to what stands somewhere
+//! in the text, and `lines` counts lines and columns. It knows no configuration.
+#![tactic(auto)]
+
+mod lines;
+mod marks;
+mod steps;
+
+pub use lines::line_and_column;
+pub use marks::{Spot, document_of, tried, with};
+pub use steps::{Step, value_at};
