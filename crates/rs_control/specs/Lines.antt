@@ -109,23 +109,30 @@ abbrev pub no_command : List ℕ → Meaning
 no_command [] = Refused causes.NoCommand []
 no_command (octet ∷ octets) = Refused causes.UnknownCommand (octet ∷ octets)
 
--- a command that names no member, with what stands behind it
-abbrev pub server_meaning : List ℕ → List ℕ → Meaning
-server_meaning word rest =
-    if bytes_eq word (codes "reload") then alone rest (Ordered orders.Reload)
-    else (if bytes_eq word (codes "stop") then alone rest (Ordered orders.End)
-    else (if bytes_eq word (codes "help") then alone rest Help
-    else no_command word))
+-- a command's word, and what it asks for with what stands behind it
+abbrev pub Command : Type 0
+Command = List ℕ × (Configuration → List ℕ → Meaning)
 
--- a command, with what stands behind it
+-- the commands; those from the sixth on name no member
+abbrev pub commands : List Command
+commands =
+    (codes "show", show_of)
+    ∷ (codes "why", why_meaning)
+    ∷ (codes "disable", disable_meaning)
+    ∷ (codes "enable", enable_meaning)
+    ∷ (codes "refresh", refresh_meaning)
+    ∷ (codes "reload", λ config rest. alone rest (Ordered orders.Reload))
+    ∷ (codes "stop", λ config rest. alone rest (Ordered orders.End))
+    ∷ (codes "help", λ config rest. alone rest Help)
+    ∷ []
+
+-- the one of these that has this word, with what stands behind it
+abbrev pub meaning_among : List Command → Configuration → List ℕ → List ℕ → Meaning
+meaning_among [] config word rest = no_command word
+meaning_among (it ∷ others) config word rest = if bytes_eq word it.0 then it.1 config rest else meaning_among others config word rest
+
 abbrev pub command_meaning : Configuration → List ℕ → List ℕ → Meaning
-command_meaning config word rest =
-    if bytes_eq word (codes "show") then show_of config rest
-    else (if bytes_eq word (codes "why") then why_meaning config rest
-    else (if bytes_eq word (codes "disable") then disable_meaning config rest
-    else (if bytes_eq word (codes "enable") then enable_meaning config rest
-    else (if bytes_eq word (codes "refresh") then refresh_meaning config rest
-    else server_meaning word rest))))
+command_meaning config word rest = meaning_among commands config word rest
 
 -- a line, without its end
 abbrev pub line_meaning : Configuration → List ℕ → Meaning

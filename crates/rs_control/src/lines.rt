@@ -1,8 +1,9 @@
 //! What a line of an operator asks for, or why it is refused.
 
-ghost use Rattle.std.specs.Prelude.{◌≡◌, MatchResult};
+ghost use Rattle.std.specs.Prelude.{◌≡◌, drop, MatchResult};
 ghost use Rattle.std.specs.List.{before_first, after_first};
-ghost use Rattle.rs_control.specs.Lines.{is_space, is_prefix_octet, are_prefix_octets, unspaced, meaning_of, member_named, named_in, alone, show_of, why_of, why_meaning, disable_meaning, enable_meaning, refresh_meaning, server_meaning, command_meaning, line_meaning};
+ghost use Rattle.rs_policy.specs.Configuration.{Configuration};
+ghost use Rattle.rs_control.specs.Lines.{is_space, is_prefix_octet, are_prefix_octets, unspaced, meaning_of, member_named, named_in, alone, show_of, why_of, why_meaning, disable_meaning, enable_meaning, refresh_meaning, commands, meaning_among, command_meaning, line_meaning};
 
 use crate::fronts::position;
 use crate::order::Order;
@@ -196,7 +197,7 @@ fn refresh<'a>(config: &Config, rest: &'a [u8]) -> Asked<'a>
 
 /// What a command that names no member asks for, with what stands behind it.
 fn server_command<'a>(word: &'a [u8], rest: &'a [u8]) -> Asked<'a>
-    ensures { meaning_of result ≡ server_meaning word.now rest.now }
+    ensures { (config : Configuration) → meaning_of result ≡ meaning_among (drop 5 commands) config word.now rest.now }
 {
     if word == b"reload".as_slice() {
         alone(rest, Asked::Order(Order::Reload))
