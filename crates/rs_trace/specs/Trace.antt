@@ -1,5 +1,6 @@
 -- What a line of a trace says.
 use Rattle.std.specs.Prelude.{ℕ, ◌==◌, nat_lt, Bool, true, if◌then◌else◌, List, [], ◌∷◌, length, codes, bytes_eq, Option, Some, None, Result, Ok, Err}
+use Rattle.std.specs.Map.{lookup}
 use Rattle.std.specs.Option.{option_and_then}
 use Rattle.std.specs.Result.{result_ok}
 use Rattle.hex.specs.Hex.{decode_of}
@@ -37,26 +38,24 @@ pub data LineMeaning : Type 0 where
   -- the routes of the client's Loc-RIB are asked for
   Listed : ℕ → LineMeaning
 
--- those of what is asked for by who runs the server
-abbrev pub operator_word_of : List ℕ → Option Word
-operator_word_of text =
-    if bytes_eq text (codes "shutdown") then Some Shutdown
-    else if bytes_eq text (codes "refresh") then Some Refresh
-    else if bytes_eq text (codes "more") then Some More
-    else if bytes_eq text (codes "rules") then Some Rules
-    else if bytes_eq text (codes "table") then Some Table
-    else None
+-- the words that a line may begin with; those from the seventh on are of what is asked for by who runs the server
+abbrev pub words : List (List ℕ × Word)
+words =
+    (codes "octets", Octets)
+    ∷ (codes "room", Room)
+    ∷ (codes "turn", Turn)
+    ∷ (codes "moment", Moment)
+    ∷ (codes "open", Open)
+    ∷ (codes "lost", Lost)
+    ∷ (codes "shutdown", Shutdown)
+    ∷ (codes "refresh", Refresh)
+    ∷ (codes "more", More)
+    ∷ (codes "rules", Rules)
+    ∷ (codes "table", Table)
+    ∷ []
 
--- the words that a line may begin with
 abbrev pub word_of : List ℕ → Option Word
-word_of text =
-    if bytes_eq text (codes "octets") then Some Octets
-    else if bytes_eq text (codes "room") then Some Room
-    else if bytes_eq text (codes "turn") then Some Turn
-    else if bytes_eq text (codes "moment") then Some Moment
-    else if bytes_eq text (codes "open") then Some Open
-    else if bytes_eq text (codes "lost") then Some Lost
-    else operator_word_of text
+word_of text = lookup (bytes_eq text) words
 
 -- what comes of a value, or the fault where there is none
 abbrev pub with_value : {A B : Type 0} → Option A → LineFault → (A → Result B LineFault) → Result B LineFault

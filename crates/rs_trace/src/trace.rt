@@ -1,11 +1,12 @@
 //! The lines of a trace: what each says, and the first fault of one that says nothing. A further
 //! kind of line is a further row of `Word`, of `Entry` and of what `entry_of` calls.
 
-ghost use Rattle.std.specs.Prelude.{◌≡◌, ◌∷◌, [], ℕ, List, Option, Ok, Err, if◌then◌else◌, length, nat_lt, not, take, ok_or, option_map};
+ghost use Rattle.std.specs.Prelude.{◌≡◌, ◌∷◌, [], ℕ, List, Option, Ok, Err, if◌then◌else◌, bytes_eq, drop, length, nat_lt, not, take, ok_or, option_map};
+ghost use Rattle.std.specs.Map.{lookup};
 ghost use Rattle.rs_open.specs.Notes.{shutdown_text};
 ghost use Rattle.rs_trace.specs.Words.{AreOperands};
 ghost use Rattle.rs_trace.specs.Output.{fault_text};
-ghost use Rattle.rs_trace.specs.Trace.{word_of, operator_word_of, is_passed_over, octets_of, text_of, operator_text, meaning_of, line_of};
+ghost use Rattle.rs_trace.specs.Trace.{words, word_of, is_passed_over, octets_of, text_of, operator_text, meaning_of, line_of};
 ghost use Rattle.rs_trace.specs.Entries.{entry_as_meaning, line_as_meaning};
 
 use crate::number::read_number;
@@ -126,7 +127,7 @@ fn read_word(text: &[u8]) -> Option<Word>
 
 /// A word of what is asked for by who runs the server.
 fn read_operator_word(text: &[u8]) -> Option<Word>
-    ensures { result ≡ operator_word_of text.now }
+    ensures { result ≡ lookup (bytes_eq text.now) (drop 6 words) }
 {
     if text == b"shutdown".as_slice() {
         Some(Word::Shutdown)
