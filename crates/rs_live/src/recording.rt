@@ -77,7 +77,8 @@ impl Recording {
         ensures recorded { self.old.goes_on ≡ true → Continues L.happens core.old link.old core.new link.new (DrivesRecorded self.old.recorder.names.names (goes self.old.recorder.fault self.old.reel.is_over) self.new.recorder.fault self.new.reel.is_over self.old.reel.lines.items self.new.reel.lines.items) }
     {
         if self.goes_on {
-            drive_recorded(rt, core, link, &mut self.recorder, &mut self.reel);
+            let (recorder, reel) = (&mut self.recorder, &mut self.reel);
+            drive_recorded(rt, core, link, recorder, reel);
         } else {
             drive(rt, core, link);
         }
