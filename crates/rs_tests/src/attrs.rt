@@ -4,6 +4,7 @@ mod faults;
 mod reading;
 mod room;
 mod routes;
+mod stripping;
 
 use crate::common::{ROUTE, attrs as attrs_of, octets, put};
 use rs_attrs::{AttributeRef, Attrs, Parsed};

@@ -51,6 +51,11 @@ pub(crate) fn text_of(rt: &impl Abort, alloc: Global, parts: &[&str]) -> String 
     text
 }
 
+/// The parts of a row before its first ` | ` and behind it.
+pub(crate) fn parts(row: &str) -> (&str, &str) {
+    row.split_once(" | ").unwrap_or((row, ""))
+}
+
 /// Puts octets behind others.
 pub(crate) fn put(rt: &impl Abort, octets: &mut Vec<u8>, more: &[u8]) {
     octets.extend_from_slice(more).expect(rt, "octets");

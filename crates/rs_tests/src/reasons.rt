@@ -51,8 +51,10 @@ const HOLED: [u8; 27] = [
     0xf4, 2, 0x9a,
 ];
 
-/// Prefixes with attributes from alpha to beta, and the reasons.
-const REASONS: [(u32, u8, &[u8], &str); 9] = [
+/// A prefix with attributes from alpha to beta, and the reasons.
+type Reasons = (u32, u8, &'static [u8], &'static str);
+
+static REASONS: [Reasons; 9] = [
     // 192.168.1.0/24
     (
         0xc0a8_0100,
@@ -123,14 +125,25 @@ fn is_said(
     equals(rt, text.as_str(), want);
 }
 
+/// A row's route has its reasons.
+fn is_told(rt: &impl Abort, alloc: Global, config: &Config, row: &Reasons) {
+    let (bits, len, octets, want) = *row;
+    let prefix = prefix(rt, bits, len);
+    let attrs = attrs(rt, alloc, octets);
+    is_said(rt, alloc, config, (0, 1), (prefix, &attrs), want);
+}
+
+/// Each row's has.
+fn are_told(rt: &impl Abort, alloc: Global, config: &Config) {
+    for row in &REASONS {
+        is_told(rt, alloc, config, row);
+    }
+}
+
 #[test]
 fn each_list_tells_its_rule(rt: HostRuntime) {
     let config = Config::read(rt.alloc(), CONFIG).expect(&rt, "a configuration");
-    for (bits, len, octets, want) in &REASONS {
-        let prefix = prefix(&rt, *bits, *len);
-        let attrs = attrs(&rt, rt.alloc(), octets);
-        is_said(&rt, rt.alloc(), &config, (0, 1), (prefix, &attrs), want);
-    }
+    are_told(&rt, rt.alloc(), &config);
 }
 
 /// Beta's own routes go by no import rule, and where the default drops, by that.

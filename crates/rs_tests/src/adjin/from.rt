@@ -30,7 +30,18 @@ fn holds_from(
         );
     }
     equals(rt, routes.as_slice(), want);
-    equals(rt, listed_from(rt, ins, client, from), want.len());
+}
+
+/// The same, and as many prefixes are listed.
+fn lists_from(
+    rt: &impl Abort,
+    alloc: Global,
+    ins: &AdjIns,
+    (client, from, want): (usize, (u32, u8), &[(u32, u8, u32)]),
+) {
+    holds_from(rt, alloc, ins, client, from, want);
+    let listed = listed_from(rt, ins, client, prefix(rt, from));
+    equals(rt, listed, want.len());
 }
 
 /// How many prefixes of a client are listed from this one on.
@@ -52,13 +63,17 @@ const ALL: [(u32, u8, u32); 3] = [
 
 const BEHIND_WIDE: [(u32, u8, u32); 2] = [(INNER.0, INNER.1, 2), (OTHER.0, OTHER.1, 1)];
 
+/// Each row holds of the tables.
+fn hold_from(rt: &impl Abort, alloc: Global, ins: &AdjIns) {
+    for row in &HELD_FROM {
+        lists_from(rt, alloc, ins, *row);
+    }
+}
+
 #[test]
 fn what_is_held_from_a_prefix_on(rt: HostRuntime) {
-    let alloc = rt.alloc();
-    let ins = filled(&rt, alloc);
-    for (client, from, want) in &HELD_FROM {
-        holds_from(&rt, alloc, &ins, *client, *from, want);
-    }
+    let ins = filled(&rt, rt.alloc());
+    hold_from(&rt, rt.alloc(), &ins);
     let_go(ins);
 }
 
@@ -94,17 +109,27 @@ fn how_many_a_client_holds(rt: HostRuntime) {
     let_go(ins);
 }
 
+/// From a prefix on these are listed, with their numbers.
+fn are_numbered_from(
+    rt: &impl Abort,
+    alloc: Global,
+    ins: &AdjIns,
+    from: (u32, u8),
+    want: &[(u32, u8, u32)],
+) {
+    let mut listed = Vec::new(alloc);
+    for (prefix, number) in ins.iter_from(prefix(rt, from)) {
+        push(rt, &mut listed, (prefix.bits(), prefix.len(), number));
+    }
+    equals(rt, listed.as_slice(), want);
+}
+
 /// A prefix that nobody holds has its number still, and is listed.
 #[test]
 fn numbered_prefixes_from_a_prefix_on(rt: HostRuntime) {
-    let alloc = rt.alloc();
-    let mut ins = filled(&rt, alloc);
+    let mut ins = filled(&rt, rt.alloc());
     clear(&rt, &mut ins, 0);
-    let mut listed = Vec::new(alloc);
-    for (prefix, number) in ins.iter_from(prefix(&rt, BETWEEN)) {
-        push(&rt, &mut listed, (prefix.bits(), prefix.len(), number));
-    }
     let want = [(INNER.0, INNER.1, 2), (OTHER.0, OTHER.1, 1)];
-    equals(&rt, listed.as_slice(), want.as_slice());
+    are_numbered_from(&rt, rt.alloc(), &ins, BETWEEN, &want);
     let_go(ins);
 }

@@ -13,13 +13,10 @@ fn puts(
     ins: &mut AdjIns,
     client: usize,
     of: (u32, u8),
-    (attrs, set): (&Arc<Attrs>, u32),
+    set: (&Arc<Attrs>, u32),
     want: usize,
 ) {
-    assert!(rt; client < ins.clients());
-    assert!(rt; attrs.has_mandatory());
-    ins.put(client, prefix(rt, of), attrs, 0, set)
-        .expect(rt, "a route");
+    put_in(rt, ins, client, of, set).expect(rt, "a route");
     equals(rt, ins.set_count(), want);
 }
 

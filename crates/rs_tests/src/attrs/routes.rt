@@ -1,5 +1,6 @@
 //! Routes as clients send them, and what is asked of their attributes.
 
+use super::stripping::NOTHING;
 use super::{ROUTE, attrs_of, put, route_with};
 use crate::common::{equals, is_of, is_so};
 use rs_attrs::{
@@ -13,14 +14,20 @@ use std::process::Abort;
 /// Segments of an AS_PATH: the type, the count, and the number that each holds.
 type Segments<'a> = &'a [(u8, u8, u32)];
 
+/// Puts a segment.
+fn put_segment(rt: &impl Abort, value: &mut Vec<u8>, segment: &(u8, u8, u32)) {
+    let (kind, count, number) = *segment;
+    put(rt, value, &[kind, count]);
+    for _ in 0..count {
+        put(rt, value, &number.to_be_bytes());
+    }
+}
+
 /// The value of an AS_PATH of these segments.
 fn path_value(rt: &impl Abort, alloc: Global, segments: Segments<'_>) -> Vec<u8> {
     let mut value = Vec::new(alloc);
-    for (kind, count, number) in segments {
-        put(rt, &mut value, &[*kind, *count]);
-        for _ in 0..*count {
-            put(rt, &mut value, &number.to_be_bytes());
-        }
+    for segment in segments {
+        put_segment(rt, &mut value, segment);
     }
     value
 }
@@ -150,8 +157,10 @@ fn path_is(
     }
 }
 
-/// Each row: segments, path length, origin AS, an AS that it has.
-const PATHS: [(Segments<'static>, usize, Option<u32>, Option<u32>); 7] = [
+/// Segments, path length, origin AS, an AS that it has.
+type Path = (Segments<'static>, usize, Option<u32>, Option<u32>);
+
+static PATHS: [Path; 7] = [
     (&[], 0, None, None),
     (&[(2, 1, 64496)], 1, Some(64496), Some(64496)),
     (&[(2, 2, 64496), (1, 3, 64497)], 3, None, Some(64497)),
@@ -176,11 +185,17 @@ const PATHS: [(Segments<'static>, usize, Option<u32>, Option<u32>); 7] = [
     ),
 ];
 
+/// A path is as its row says.
+fn is_path(rt: &impl Abort, alloc: Global, row: &Path) {
+    let (segments, length, origin, member) = *row;
+    let attrs = path_of(rt, alloc, segments);
+    path_is(rt, &attrs, length, origin, member);
+}
+
 #[test]
 fn paths(rt: HostRuntime) {
-    for (segments, length, origin, member) in PATHS {
-        let attrs = path_of(&rt, rt.alloc(), segments);
-        path_is(&rt, &attrs, length, origin, member);
+    for row in &PATHS {
+        is_path(&rt, rt.alloc(), row);
     }
 }
 
@@ -211,8 +226,10 @@ fn has_large(rt: &impl Abort, attrs: &Attrs, pattern: LargeCommunityPattern, wan
 const LARGE: &[u8] =
     b"\xc0\x20\x18\x00\x00\xfb\xf0\x00\x00\x00\x01\x00\x00\x00\x02\xfa\x56\xea\x00\x00\x00\x00\x00\xff\xff\xff\xff";
 
-/// Each row: the parts, None where one may be any, and whether a large community of them is there.
-const LARGE_LIKE: [(Option<u32>, Option<u32>, Option<u32>, bool); 10] = [
+/// The parts, None where one may be any, and whether a large community of them is there.
+type Like = (Option<u32>, Option<u32>, Option<u32>, bool);
+
+static LARGE_LIKE: [Like; 10] = [
     (Some(64496), Some(1), Some(2), true),
     (Some(4_200_000_000), Some(0), Some(4_294_967_295), true),
     (Some(64496), Some(1), None, true),
@@ -226,19 +243,30 @@ const LARGE_LIKE: [(Option<u32>, Option<u32>, Option<u32>, bool); 10] = [
     (Some(64497), None, None, false),
 ];
 
+/// Whether a large community as a row says is among some attributes; it isn't among others.
+fn are_large(rt: &impl Abort, attrs: &Attrs, none: &Attrs, row: &Like) {
+    let (global, first, second, want) = *row;
+    let pattern = LargeCommunityPattern {
+        global,
+        first,
+        second,
+    };
+    has_large(rt, attrs, pattern, want);
+    has_large(rt, none, pattern, false);
+}
+
+/// Each row holds of them.
+fn hold_large(rt: &impl Abort, attrs: &Attrs, none: &Attrs) {
+    for row in &LARGE_LIKE {
+        are_large(rt, attrs, none, row);
+    }
+}
+
 #[test]
 fn large_communities_stand_at_each_twelfth_octet(rt: HostRuntime) {
     let attrs = route_with(&rt, rt.alloc(), LARGE);
     let none = attrs_of(&rt, rt.alloc(), &ROUTE);
-    for (global, first, second, want) in LARGE_LIKE {
-        let pattern = LargeCommunityPattern {
-            global,
-            first,
-            second,
-        };
-        has_large(&rt, &attrs, pattern, want);
-        has_large(&rt, &none, pattern, false);
-    }
+    hold_large(&rt, &attrs, &none);
 }
 
 fn hash_of(attrs: &Attrs) -> u64 {
@@ -301,10 +329,15 @@ fn equal_by_meaning(rt: HostRuntime) {
     compares(&rt, alloc, b"\xc0\x63\x00", b"", false);
 }
 
-/// Whether two sets of attributes keep one hash, as they do where they are equal.
+/// Whether two sets of attributes keep one hash.
+fn keep_a_hash(rt: &impl Abort, left: &Attrs, right: &Attrs, one: bool) {
+    equals(rt, left.kept_hash() == right.kept_hash(), one);
+}
+
+/// The same, as they do where they are equal.
 fn keep_one(rt: &impl Abort, left: &Attrs, right: &Attrs, one: bool) {
     equals(rt, left == right, one);
-    equals(rt, left.kept_hash() == right.kept_hash(), one);
+    keep_a_hash(rt, left, right, one);
 }
 
 #[test]
@@ -329,144 +362,4 @@ fn equal_attributes_keep_one_hash(rt: HostRuntime) {
     keep_one(&rt, &community, &another, false);
     let partial = route_with(&rt, alloc, b"\xe0\x08\x04\xfb\xf0\x00\x01");
     keep_one(&rt, &community, &partial, false);
-}
-
-// 64496:1, 64496:2, 64496:1, with the partial bit; 64496:1:2, 64496:1:3; and an unknown attribute behind them
-const SENT: &[u8] =
-    b"\xe0\x08\x0c\xfb\xf0\x00\x01\xfb\xf0\x00\x02\xfb\xf0\x00\x01\xc0\x20\x18\x00\x00\xfb\xf0\x00\x00\x00\x01\x00\x00\x00\x02\x00\x00\xfb\xf0\x00\x00\x00\x01\x00\x00\x00\x03\xc0\x63\x02\xab\xcd";
-
-const WITHOUT_1: &[u8] =
-    b"\xe0\x08\x04\xfb\xf0\x00\x02\xc0\x20\x18\x00\x00\xfb\xf0\x00\x00\x00\x01\x00\x00\x00\x02\x00\x00\xfb\xf0\x00\x00\x00\x01\x00\x00\x00\x03\xc0\x63\x02\xab\xcd";
-
-const WITHOUT_COMMUNITIES: &[u8] =
-    b"\xc0\x20\x18\x00\x00\xfb\xf0\x00\x00\x00\x01\x00\x00\x00\x02\x00\x00\xfb\xf0\x00\x00\x00\x01\x00\x00\x00\x03\xc0\x63\x02\xab\xcd";
-
-const WITHOUT_1_2: &[u8] =
-    b"\xe0\x08\x0c\xfb\xf0\x00\x01\xfb\xf0\x00\x02\xfb\xf0\x00\x01\xc0\x20\x0c\x00\x00\xfb\xf0\x00\x00\x00\x01\x00\x00\x00\x03\xc0\x63\x02\xab\xcd";
-
-const WITHOUT_LARGE: &[u8] =
-    b"\xe0\x08\x0c\xfb\xf0\x00\x01\xfb\xf0\x00\x02\xfb\xf0\x00\x01\xc0\x63\x02\xab\xcd";
-
-const WITHOUT_ANY: &[u8] = b"\xc0\x63\x02\xab\xcd";
-
-const NOTHING: Strip<'static> = Strip {
-    communities: [&[], &[]],
-    all_communities: false,
-    large: [&[], &[]],
-    all_large: false,
-};
-
-/// 64496:1
-const C_1: CommunityPattern = CommunityPattern {
-    high: Some(64496),
-    low: Some(1),
-};
-
-/// 64496:2
-const C_2: CommunityPattern = CommunityPattern {
-    high: Some(64496),
-    low: Some(2),
-};
-
-/// 64496:3
-const C_3: CommunityPattern = CommunityPattern {
-    high: Some(64496),
-    low: Some(3),
-};
-
-/// 64496:*
-const C_ANY: CommunityPattern = CommunityPattern {
-    high: Some(64496),
-    low: None,
-};
-
-/// 64496:1:2
-const L_1_2: LargeCommunityPattern = LargeCommunityPattern {
-    global: Some(64496),
-    first: Some(1),
-    second: Some(2),
-};
-
-/// 64496:1:*
-const L_1_ANY: LargeCommunityPattern = LargeCommunityPattern {
-    global: Some(64496),
-    first: Some(1),
-    second: None,
-};
-
-/// 64496:2:*
-const L_2_ANY: LargeCommunityPattern = LargeCommunityPattern {
-    global: Some(64496),
-    first: Some(2),
-    second: None,
-};
-
-/// A strip leaves just this of attributes, and says whether that is less.
-fn leaves(rt: &impl Abort, alloc: Global, strip: &Strip<'_>, attrs: &Attrs, left: &Attrs) {
-    is_of(rt, strip.changes(attrs), left != attrs, &strip);
-    let outcome = stripped(alloc, attrs, strip).expect(rt, "attributes");
-    is_of(rt, &outcome, left, strip);
-}
-
-/// What is left of the communities sent; a route without any is left as it is.
-fn strips(rt: &impl Abort, alloc: Global, strip: &Strip<'_>, left: &[u8]) {
-    let sent = route_with(rt, alloc, SENT);
-    let left = route_with(rt, alloc, left);
-    leaves(rt, alloc, strip, &sent, &left);
-    let route = attrs_of(rt, alloc, &ROUTE);
-    leaves(rt, alloc, strip, &route, &route);
-}
-
-/// Each row: what is stripped of COMMUNITIES, by two lists or all, and what is left.
-const COMMUNITIES_STRIPPED: [([&[CommunityPattern]; 2], bool, &[u8]); 7] = [
-    ([&[], &[]], false, SENT),
-    ([&[C_3], &[C_3]], false, SENT),
-    ([&[C_1], &[]], false, WITHOUT_1),
-    ([&[], &[C_3, C_1]], false, WITHOUT_1),
-    ([&[C_2], &[C_1]], false, WITHOUT_COMMUNITIES),
-    ([&[C_ANY], &[]], false, WITHOUT_COMMUNITIES),
-    ([&[C_3], &[]], true, WITHOUT_COMMUNITIES),
-];
-
-#[test]
-fn strips_communities(rt: HostRuntime) {
-    for (communities, all, left) in COMMUNITIES_STRIPPED {
-        let strip = Strip {
-            communities,
-            all_communities: all,
-            ..NOTHING
-        };
-        strips(&rt, rt.alloc(), &strip, left);
-    }
-}
-
-/// Each row: what is stripped of LARGE_COMMUNITY, by two lists or all, and what is left.
-const LARGE_STRIPPED: [([&[LargeCommunityPattern]; 2], bool, &[u8]); 5] = [
-    ([&[L_2_ANY], &[]], false, SENT),
-    ([&[L_1_2], &[]], false, WITHOUT_1_2),
-    ([&[], &[L_2_ANY, L_1_2]], false, WITHOUT_1_2),
-    ([&[L_2_ANY], &[L_1_ANY]], false, WITHOUT_LARGE),
-    ([&[], &[]], true, WITHOUT_LARGE),
-];
-
-#[test]
-fn strips_large_communities(rt: HostRuntime) {
-    for (large, all, left) in LARGE_STRIPPED {
-        let strip = Strip {
-            large,
-            all_large: all,
-            ..NOTHING
-        };
-        strips(&rt, rt.alloc(), &strip, left);
-    }
-}
-
-#[test]
-fn strips_both(rt: HostRuntime) {
-    let strip = Strip {
-        communities: [&[C_1], &[C_2]],
-        large: [&[L_1_ANY], &[]],
-        ..NOTHING
-    };
-    strips(&rt, rt.alloc(), &strip, WITHOUT_ANY);
 }

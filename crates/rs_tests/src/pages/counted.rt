@@ -1,6 +1,6 @@
 //! Routes that are counted, and many that come in pieces.
 
-use super::{announce, ends, is_said, let_go, page, says, says_times, server};
+use super::{Memory, announce, ends, is_said, let_go, page, says, says_times, server};
 use crate::common::{is_of, is_so};
 use std::alloc::Global;
 use std::process::Abort;
@@ -32,29 +32,24 @@ const ROUTES_COUNTED: [(&str, &str); 5] = [
     ("/routes/count/protocol/beta", ",\"routes\":3}\n"),
 ];
 
+/// The pages say so.
+fn are_counted(rt: &impl Abort, alloc: Global, tables: &Memory) {
+    for (target, said) in &ROUTES_COUNTED {
+        ends(rt, alloc, tables, target, said);
+    }
+    let of_alpha = "<td class=number>3<td class=number>1<td class=number>0<td class=number>0</tr>";
+    says(rt, alloc, tables, "/", of_alpha);
+    let before_beta = "\"imported\":2,\"filtered\":1,\"exported\":0,\"preferred\":1}}\n,\"beta\"";
+    says(rt, alloc, tables, "/protocols/bgp", before_beta);
+}
+
 #[test]
 fn routes_are_counted(rt: HostRuntime) {
     let mut tables = server(&rt, rt.alloc(), 3);
     announce(&rt, rt.alloc(), &mut tables.others, 0, &SHORTER);
     announce(&rt, rt.alloc(), &mut tables.others, 1, &LONGER);
     announce(&rt, rt.alloc(), &mut tables.others, 2, &LONGER);
-    for (target, said) in &ROUTES_COUNTED {
-        ends(&rt, rt.alloc(), &tables, target, said);
-    }
-    says(
-        &rt,
-        rt.alloc(),
-        &tables,
-        "/",
-        "<td class=number>3<td class=number>1<td class=number>0<td class=number>0</tr>",
-    );
-    says(
-        &rt,
-        rt.alloc(),
-        &tables,
-        "/protocols/bgp",
-        "\"imported\":2,\"filtered\":1,\"exported\":0,\"preferred\":1}}\n,\"beta\"",
-    );
+    are_counted(&rt, rt.alloc(), &tables);
     let_go(tables);
 }
 

@@ -1,8 +1,9 @@
 //! Prefixes as texts within a target, and as numbers by which a page goes on.
 
 use crate::common::{equals, is, prefix};
-use crate::pages::{found, let_go, server};
+use crate::pages::{Memory, found, let_go, server};
 use rs_page_parts::keys::{key, prefix_at};
+use std::alloc::Global;
 use std::process::Abort;
 
 /// Texts of prefixes, and what they spell: bits and length.
@@ -36,12 +37,17 @@ fn is_read(rt: &impl Abort, text: &str, at: Option<u64>, want: Option<(u32, u8)>
     }
 }
 
+/// Each row's text is read as it says.
+fn all_are_read(rt: &impl Abort, alloc: Global, tables: &Memory) {
+    for (text, want) in &PREFIXES {
+        let at = found(rt, alloc, tables, text);
+        is_read(rt, text, at, *want);
+    }
+}
+
 #[test]
 fn prefixes_are_read(rt: HostRuntime) {
     let tables = server(&rt, rt.alloc(), 0);
-    for (text, want) in &PREFIXES {
-        let at = found(&rt, rt.alloc(), &tables, text);
-        is_read(&rt, text, at, *want);
-    }
+    all_are_read(&rt, rt.alloc(), &tables);
     let_go(tables);
 }

@@ -143,12 +143,17 @@ const NONE: [&str; 16] = [
     "/why?to=gamma&prefix=198.51.100.0/24",
 ];
 
+/// Each page says this.
+fn all_say(rt: &impl Abort, alloc: Global, tables: &Memory) {
+    for (target, said) in &SAID {
+        says(rt, alloc, tables, target, said);
+    }
+}
+
 #[test]
 fn each_page_says(rt: HostRuntime) {
     let tables = server(&rt, rt.alloc(), 2);
-    for (target, said) in &SAID {
-        says(&rt, rt.alloc(), &tables, target, said);
-    }
+    all_say(&rt, rt.alloc(), &tables);
     let_go(tables);
 }
 
@@ -171,12 +176,17 @@ fn lists(rt: &impl Abort, alloc: Global, tables: &Memory, target: &str, kept: Op
     ends(rt, alloc, tables, target, "]}\n");
 }
 
+/// The page at each target lists so.
+fn all_list(rt: &impl Abort, alloc: Global, tables: &Memory) {
+    for (target, kept) in &KEPT {
+        lists(rt, alloc, tables, target, *kept);
+    }
+}
+
 #[test]
 fn what_rules_keep_is_listed(rt: HostRuntime) {
     let tables = server(&rt, rt.alloc(), 3);
-    for (target, kept) in &KEPT {
-        lists(&rt, rt.alloc(), &tables, target, *kept);
-    }
+    all_list(&rt, rt.alloc(), &tables);
     let_go(tables);
 }
 
@@ -186,11 +196,16 @@ fn is_none(rt: &impl Abort, alloc: Global, tables: &Memory, target: &str) {
     is(rt, pieces, 0, target);
 }
 
+/// There is none at each of these.
+fn all_are_none(rt: &impl Abort, alloc: Global, tables: &Memory) {
+    for target in &NONE {
+        is_none(rt, alloc, tables, target);
+    }
+}
+
 #[test]
 fn there_are_no_others(rt: HostRuntime) {
     let tables = server(&rt, rt.alloc(), 1);
-    for target in &NONE {
-        is_none(&rt, rt.alloc(), &tables, target);
-    }
+    all_are_none(&rt, rt.alloc(), &tables);
     let_go(tables);
 }

@@ -226,20 +226,29 @@ fn is_limited(rt: &impl Abort, config: &Config, client: usize, limit: Option<u32
     equals(rt, config.limit(client), limit);
 }
 
+/// The clients of the first example, with their names and their ASes.
+static MEMBERS: [(usize, &str, u32); 4] = [
+    (0, "a", 64496),
+    (1, "b", 64497),
+    (2, "c", 64498),
+    (3, "d", 64499),
+];
+
+/// A client is as its row says.
+fn is_member(rt: &impl Abort, config: &Config, row: &(usize, &str, u32)) {
+    let (client, name, number) = *row;
+    is_named(rt, config, client, name);
+    is_in_as(rt, config, client, number);
+}
+
 #[test]
 fn the_four_members_are_read(rt: HostRuntime) {
     let config = read(&rt, rt.alloc(), FOUR_MEMBERS);
     equals(&rt, config.clients(), 4);
     is_the_server(&rt, &config);
     speaks_of(&rt, &config, false, false, false);
-    for (client, name, number) in [
-        (0, "a", 64496),
-        (1, "b", 64497),
-        (2, "c", 64498),
-        (3, "d", 64499),
-    ] {
-        is_named(&rt, &config, client, name);
-        is_in_as(&rt, &config, client, number);
+    for row in &MEMBERS {
+        is_member(&rt, &config, row);
     }
     is_reached(&rt, &config, 3, (0x7f00_0001, 17904), 0xc000_020e);
     let_go(config);

@@ -3,7 +3,7 @@
 use super::matching::{drops, left};
 use super::routes::{NOWHERE, Route, SET};
 use super::*;
-use crate::common::{ROUTE, prefix};
+use crate::common::{ROUTE, parts, prefix};
 
 /// Entries of `prefixes`, each list with a prefix and whether it is in. The operators by the examples of
 /// RFC 2622, 2.
@@ -107,15 +107,20 @@ fn origin_is_in(rt: &impl Abort, alloc: Global, route: &Route, entries: &str, is
     goes_by_list(rt, alloc, route, list.as_str(), "origin_in = \"l\"", is_in);
 }
 
+/// Each row holds of a route; another has no origin.
+fn origins_are_in(rt: &impl Abort, alloc: Global, route: &Route, set: &Route) {
+    for (entries, is_in) in &ORIGINS {
+        origin_is_in(rt, alloc, route, entries, *is_in);
+        origin_is_in(rt, alloc, set, entries, false);
+    }
+}
+
 #[test]
 fn origins_in_lists(rt: HostRuntime) {
     let route = Route::spelt(&rt, rt.alloc(), &ROUTE);
     // a path whose last segment is a set has no origin
     let set = Route::spelt(&rt, rt.alloc(), SET);
-    for (entries, is_in) in &ORIGINS {
-        origin_is_in(&rt, rt.alloc(), &route, entries, *is_in);
-        origin_is_in(&rt, rt.alloc(), &set, entries, false);
-    }
+    origins_are_in(&rt, rt.alloc(), &route, &set);
     route.let_go();
     set.let_go();
 }
@@ -137,14 +142,19 @@ fn path_is_in(rt: &impl Abort, alloc: Global, route: &Route, entries: &str, is_i
     goes_by_list(rt, alloc, route, list.as_str(), "path_in = \"l\"", is_in);
 }
 
+/// Each row holds of a route; another has an empty path.
+fn paths_are_in(rt: &impl Abort, alloc: Global, set: &Route, nowhere: &Route) {
+    for (entries, is_in) in &PATHS {
+        path_is_in(rt, alloc, set, entries, *is_in);
+        path_is_in(rt, alloc, nowhere, entries, false);
+    }
+}
+
 #[test]
 fn paths_in_lists(rt: HostRuntime) {
     let set = Route::spelt(&rt, rt.alloc(), SET);
     let nowhere = Route::spelt(&rt, rt.alloc(), NOWHERE);
-    for (entries, is_in) in &PATHS {
-        path_is_in(&rt, rt.alloc(), &set, entries, *is_in);
-        path_is_in(&rt, rt.alloc(), &nowhere, entries, false);
-    }
+    paths_are_in(&rt, rt.alloc(), &set, &nowhere);
     set.let_go();
     nowhere.let_go();
 }
@@ -275,61 +285,23 @@ fn faults_of_lists(rt: HostRuntime) {
     }
 }
 
-/// Rules beside a list `p` of prefixes and a list `n` of AS numbers, each with its fault.
-const RULES: [(&str, &str); 15] = [
-    ("prefix_in = \"p\", action = \"drop\"", "good"),
-    ("origin_in = \"n\", action = \"drop\"", "good"),
-    (
-        "prefix_in = 1, action = \"drop\"",
-        "bad value client 1 import 1 prefix_in",
-    ),
-    (
-        "prefix_in = \"q\", action = \"drop\"",
-        "bad value client 1 import 1 prefix_in",
-    ),
-    (
-        "prefix_in = \"n\", action = \"drop\"",
-        "bad value client 1 import 1 prefix_in",
-    ),
-    (
-        "origin_in = \"p\", action = \"drop\"",
-        "bad value client 1 import 1 origin_in",
-    ),
-    ("path_in = \"n\", action = \"drop\"", "good"),
-    (
-        "path_in = 64496, action = \"drop\"",
-        "bad value client 1 import 1 path_in",
-    ),
-    (
-        "path_in = \"p\", action = \"drop\"",
-        "bad value client 1 import 1 path_in",
-    ),
-    (
-        "path_in = \"q\", action = \"drop\"",
-        "bad value client 1 import 1 path_in",
-    ),
-    // in the order of the keys
-    (
-        "origin_as = 0, path_in = \"q\"",
-        "bad value client 1 import 1 path_in",
-    ),
-    (
-        "first_as_is_peer = 1, origin_in = \"q\"",
-        "bad value client 1 import 1 origin_in",
-    ),
-    (
-        "max = 1, prefix_in = \"q\"",
-        "bad value client 1 import 1 max",
-    ),
-    (
-        "from = \"z\", prefix_in = \"q\"",
-        "bad value client 1 import 1 prefix_in",
-    ),
-    (
-        "origin_as = 0, origin_in = \"q\"",
-        "bad value client 1 import 1 origin_as",
-    ),
-];
+/// Rules beside a list `p` of prefixes and a list `n` of AS numbers, each line with the fault; from `origin_as = 0, path_in` on
+/// faults come in the order of the keys.
+const RULES: &str = r#"prefix_in = "p", action = "drop" | good
+origin_in = "n", action = "drop" | good
+prefix_in = 1, action = "drop" | bad value client 1 import 1 prefix_in
+prefix_in = "q", action = "drop" | bad value client 1 import 1 prefix_in
+prefix_in = "n", action = "drop" | bad value client 1 import 1 prefix_in
+origin_in = "p", action = "drop" | bad value client 1 import 1 origin_in
+path_in = "n", action = "drop" | good
+path_in = 64496, action = "drop" | bad value client 1 import 1 path_in
+path_in = "p", action = "drop" | bad value client 1 import 1 path_in
+path_in = "q", action = "drop" | bad value client 1 import 1 path_in
+origin_as = 0, path_in = "q" | bad value client 1 import 1 path_in
+first_as_is_peer = 1, origin_in = "q" | bad value client 1 import 1 origin_in
+max = 1, prefix_in = "q" | bad value client 1 import 1 max
+from = "z", prefix_in = "q" | bad value client 1 import 1 prefix_in
+origin_as = 0, origin_in = "q" | bad value client 1 import 1 origin_as"#;
 
 const NAMED: &str = "[[list]]\nname = \"p\"\nprefixes = [\"10.0.0.0/8\"]\n\
 [[list]]\nname = \"n\"\nases = [64496]\n";
@@ -340,6 +312,12 @@ fn rule_is_answered(rt: &impl Abort, alloc: Global, rule: &str, want: &str) {
     are_answered(rt, alloc, &parts, want);
 }
 
+/// The same of a row.
+fn is_row(rt: &impl Abort, alloc: Global, row: &str) {
+    let (rule, want) = parts(row);
+    rule_is_answered(rt, alloc, rule, want);
+}
+
 /// A list without a name before a client with an empty rule, and this behind them, are answered by this.
 fn nameless_is_answered(rt: &impl Abort, alloc: Global, behind: &str, want: &str) {
     let parts = [TOP, "[[list]]\n", CLIENT, "import = [{}]\n", behind];
@@ -348,8 +326,8 @@ fn nameless_is_answered(rt: &impl Abort, alloc: Global, behind: &str, want: &str
 
 #[test]
 fn rules_that_name_lists(rt: HostRuntime) {
-    for (rule, want) in &RULES {
-        rule_is_answered(&rt, rt.alloc(), rule, want);
+    for row in RULES.lines() {
+        is_row(&rt, rt.alloc(), row);
     }
     // a list's fault comes after the clients' and before the rules'
     let client = "missing client 2 name";

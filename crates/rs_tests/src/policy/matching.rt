@@ -73,13 +73,19 @@ pub(super) fn drops(rt: &impl Abort, alloc: Global, test: &str) -> String {
     text_of(rt, alloc, &["{ ", test, ", action = \"drop\" }"])
 }
 
+/// A route to a row's prefix is dropped by a rule with its test, or isn't.
+fn is_dropped(rt: &impl Abort, alloc: Global, route: &mut Route, row: &(&str, u32, u8, bool)) {
+    let (test, bits, len, matches) = *row;
+    let rule = drops(rt, alloc, test);
+    route.prefix = prefix(rt, bits, len);
+    route.goes(rt, alloc, ("", "", rule.as_str()), left(matches));
+}
+
 #[test]
 fn prefixes_and_their_lengths(rt: HostRuntime) {
     let mut route = Route::spelt(&rt, rt.alloc(), &ROUTE);
-    for (test, bits, len, matches) in &PREFIXES {
-        let rule = drops(&rt, rt.alloc(), test);
-        route.prefix = prefix(&rt, *bits, *len);
-        route.goes(&rt, rt.alloc(), ("", "", rule.as_str()), left(*matches));
+    for row in &PREFIXES {
+        is_dropped(&rt, rt.alloc(), &mut route, row);
     }
     route.let_go();
 }

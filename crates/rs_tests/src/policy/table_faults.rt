@@ -1,6 +1,7 @@
 //! Faults in the tables of a client and of a rule: every kind of fault at every key.
 
 use super::*;
+use crate::common::parts;
 use std::process::Abort;
 
 /// The keys of a second client, each with the fault.
@@ -113,302 +114,82 @@ const IN_A_CLIENT: [(&str, &str); 32] = [
     ),
 ];
 
-/// The keys of a rule, each with the cause and the key of its fault.
-const IN_A_RULE: [(&str, &str, &str); 43] = [
-    ("", "missing", "action"),
-    ("prefix = 1, action = \"pass\"", "bad value", "prefix"),
-    (
-        "prefix = \"10.0.0.0\", action = \"pass\"",
-        "bad value",
-        "prefix",
-    ),
-    (
-        "prefix = \"10.0.0.0/33\", action = \"pass\"",
-        "bad value",
-        "prefix",
-    ),
-    (
-        "prefix = \"10.0.0.0/08\", action = \"pass\"",
-        "bad value",
-        "prefix",
-    ),
-    (
-        "prefix = \"10.0.0/8\", min = 9, action = \"pass\"",
-        "bad value",
-        "prefix",
-    ),
-    ("min = 8, action = \"pass\"", "bad value", "min"),
-    ("max = 8, action = \"pass\"", "bad value", "max"),
-    (
-        "prefix = \"10.0.0.0/8\", min = 7, action = \"pass\"",
-        "bad value",
-        "min",
-    ),
-    (
-        "prefix = \"10.0.0.0/8\", min = 33, action = \"pass\"",
-        "bad value",
-        "min",
-    ),
-    (
-        "prefix = \"10.0.0.0/8\", min = \"9\", action = \"pass\"",
-        "bad value",
-        "min",
-    ),
-    (
-        "prefix = \"10.0.0.0/8\", max = 7, action = \"pass\"",
-        "bad value",
-        "max",
-    ),
-    (
-        "prefix = \"10.0.0.0/8\", max = 33, action = \"pass\"",
-        "bad value",
-        "max",
-    ),
-    (
-        "prefix = \"10.0.0.0/24\", min = 25, max = 24",
-        "bad value",
-        "max",
-    ),
-    ("from = \"c\", action = \"pass\"", "bad value", "from"),
-    ("from = 1, action = \"pass\"", "bad value", "from"),
-    ("path_has = 0, action = \"pass\"", "bad value", "path_has"),
-    (
-        "path_has = \"1\", action = \"pass\"",
-        "bad value",
-        "path_has",
-    ),
-    (
-        "path_longer = -1, action = \"pass\"",
-        "bad value",
-        "path_longer",
-    ),
-    (
-        "path_longer = 4294967296, action = \"pass\"",
-        "bad value",
-        "path_longer",
-    ),
-    // in the order of the keys
-    ("path_longer = \"1\", path_has = 0", "bad value", "path_has"),
-    (
-        "path_longer = true, path_in = 1",
-        "bad value",
-        "path_longer",
-    ),
-    (
-        "first_as_is_peer = \"true\", action = \"pass\"",
-        "bad value",
-        "first_as_is_peer",
-    ),
-    (
-        "first_as_is_peer = 1, community = 1",
-        "bad value",
-        "first_as_is_peer",
-    ),
-    (
-        "origin_as = 4294967296, action = \"pass\"",
-        "bad value",
-        "origin_as",
-    ),
-    (
-        "community = \"65536:1\", action = \"pass\"",
-        "bad value",
-        "community",
-    ),
-    (
-        "community = \"1:01\", action = \"pass\"",
-        "bad value",
-        "community",
-    ),
-    (
-        "community = \"1\", action = \"pass\"",
-        "bad value",
-        "community",
-    ),
-    ("community = 1, action = \"pass\"", "bad value", "community"),
-    (
-        "next_hop_is_peer = 1, action = \"pass\"",
-        "bad value",
-        "next_hop_is_peer",
-    ),
-    ("action = \"accept\"", "bad value", "action"),
-    ("action = true", "bad value", "action"),
-    (
-        "action = \"drop\", preference = 5",
-        "bad value",
-        "preference",
-    ),
-    (
-        "action = \"pass\", preference = -1",
-        "bad value",
-        "preference",
-    ),
-    (
-        "action = \"pass\", preference = 4294967296",
-        "bad value",
-        "preference",
-    ),
-    ("preference = 5", "missing", "action"),
-    ("action = \"drop\", strip = []", "bad value", "strip"),
-    ("action = \"drop\", strip = \"all\"", "bad value", "strip"),
-    ("action = \"pass\", strip = \"none\"", "bad value", "strip"),
-    ("action = \"pass\", strip = [1]", "bad value", "strip"),
-    (
-        "action = \"pass\", strip = [\"1:1\", \"1:\"]",
-        "bad value",
-        "strip",
-    ),
-    ("action = \"pass\", colour = 1", "bad value", "?"),
-    (
-        "action = \"pass\", preference = \"5\", colour = 1",
-        "bad value",
-        "preference",
-    ),
-];
+/// The keys of a rule, each line with the cause and the key of its fault; from `path_longer = "1"` to `path_in`, and at
+/// `community = 1` behind `first_as_is_peer`, faults come in the order of the keys.
+const IN_A_RULE: &str = r#" | missing | action
+prefix = 1, action = "pass" | bad value | prefix
+prefix = "10.0.0.0", action = "pass" | bad value | prefix
+prefix = "10.0.0.0/33", action = "pass" | bad value | prefix
+prefix = "10.0.0.0/08", action = "pass" | bad value | prefix
+prefix = "10.0.0/8", min = 9, action = "pass" | bad value | prefix
+min = 8, action = "pass" | bad value | min
+max = 8, action = "pass" | bad value | max
+prefix = "10.0.0.0/8", min = 7, action = "pass" | bad value | min
+prefix = "10.0.0.0/8", min = 33, action = "pass" | bad value | min
+prefix = "10.0.0.0/8", min = "9", action = "pass" | bad value | min
+prefix = "10.0.0.0/8", max = 7, action = "pass" | bad value | max
+prefix = "10.0.0.0/8", max = 33, action = "pass" | bad value | max
+prefix = "10.0.0.0/24", min = 25, max = 24 | bad value | max
+from = "c", action = "pass" | bad value | from
+from = 1, action = "pass" | bad value | from
+path_has = 0, action = "pass" | bad value | path_has
+path_has = "1", action = "pass" | bad value | path_has
+path_longer = -1, action = "pass" | bad value | path_longer
+path_longer = 4294967296, action = "pass" | bad value | path_longer
+path_longer = "1", path_has = 0 | bad value | path_has
+path_longer = true, path_in = 1 | bad value | path_longer
+first_as_is_peer = "true", action = "pass" | bad value | first_as_is_peer
+first_as_is_peer = 1, community = 1 | bad value | first_as_is_peer
+origin_as = 4294967296, action = "pass" | bad value | origin_as
+community = "65536:1", action = "pass" | bad value | community
+community = "1:01", action = "pass" | bad value | community
+community = "1", action = "pass" | bad value | community
+community = 1, action = "pass" | bad value | community
+next_hop_is_peer = 1, action = "pass" | bad value | next_hop_is_peer
+action = "accept" | bad value | action
+action = true | bad value | action
+action = "drop", preference = 5 | bad value | preference
+action = "pass", preference = -1 | bad value | preference
+action = "pass", preference = 4294967296 | bad value | preference
+preference = 5 | missing | action
+action = "drop", strip = [] | bad value | strip
+action = "drop", strip = "all" | bad value | strip
+action = "pass", strip = "none" | bad value | strip
+action = "pass", strip = [1] | bad value | strip
+action = "pass", strip = ["1:1", "1:"] | bad value | strip
+action = "pass", colour = 1 | bad value | ?
+action = "pass", preference = "5", colour = 1 | bad value | preference"#;
 
 /// The same of patterns of communities.
-const OF_PATTERNS: [(&str, &str, &str); 29] = [
-    (
-        "community = \"*:0\", action = \"pass\"",
-        "bad value",
-        "community",
-    ),
-    (
-        "community = \"*:*\", action = \"pass\"",
-        "bad value",
-        "community",
-    ),
-    (
-        "community = \"64500:**\", action = \"pass\"",
-        "bad value",
-        "community",
-    ),
-    (
-        "community = \"0:Peer\", action = \"pass\"",
-        "bad value",
-        "community",
-    ),
-    (
-        "community = \"0:peer:0\", action = \"pass\"",
-        "bad value",
-        "community",
-    ),
-    (
-        "large_community = 1, action = \"pass\"",
-        "bad value",
-        "large_community",
-    ),
-    (
-        "large_community = \"64500:0\", action = \"pass\"",
-        "bad value",
-        "large_community",
-    ),
-    (
-        "large_community = \"64500:0:0:0\", action = \"pass\"",
-        "bad value",
-        "large_community",
-    ),
-    (
-        "large_community = \"64500:0:4294967296\", action = \"pass\"",
-        "bad value",
-        "large_community",
-    ),
-    (
-        "large_community = \"64500:00:1\", action = \"pass\"",
-        "bad value",
-        "large_community",
-    ),
-    (
-        "large_community = \"*:0:0\", action = \"pass\"",
-        "bad value",
-        "large_community",
-    ),
-    (
-        "large_community = \"*:*:*\", action = \"pass\"",
-        "bad value",
-        "large_community",
-    ),
-    (
-        "large_community = \"64500:*:0\", action = \"pass\"",
-        "bad value",
-        "large_community",
-    ),
-    (
-        "large_community = \"64500:*:peer\", action = \"pass\"",
-        "bad value",
-        "large_community",
-    ),
-    (
-        "large_community = \"64500::0\", action = \"pass\"",
-        "bad value",
-        "large_community",
-    ),
-    (
-        "large_community = 1, community = 1, action = \"pass\"",
-        "bad value",
-        "community",
-    ),
-    (
-        "large_community = 1, next_hop_is_peer = 1, action = \"pass\"",
-        "bad value",
-        "large_community",
-    ),
-    ("action = \"pass\", strip = [\"*:0\"]", "bad value", "strip"),
-    (
-        "action = \"pass\", strip = [\"0:peer\"]",
-        "bad value",
-        "strip",
-    ),
-    (
-        "action = \"pass\", strip = [\"64500:0:0\"]",
-        "bad value",
-        "strip",
-    ),
-    (
-        "action = \"drop\", strip_large = []",
-        "bad value",
-        "strip_large",
-    ),
-    (
-        "action = \"drop\", strip_large = \"all\"",
-        "bad value",
-        "strip_large",
-    ),
-    (
-        "action = \"pass\", strip_large = \"none\"",
-        "bad value",
-        "strip_large",
-    ),
-    (
-        "action = \"pass\", strip_large = [1]",
-        "bad value",
-        "strip_large",
-    ),
-    (
-        "action = \"pass\", strip_large = [\"64500:1\"]",
-        "bad value",
-        "strip_large",
-    ),
-    (
-        "action = \"pass\", strip_large = [\"64500:0:*\", \"*:0:0\"]",
-        "bad value",
-        "strip_large",
-    ),
-    (
-        "action = \"pass\", strip_large = [\"64500:0:peer\"]",
-        "bad value",
-        "strip_large",
-    ),
-    (
-        "action = \"pass\", strip_large = 1, strip = 1",
-        "bad value",
-        "strip",
-    ),
-    (
-        "action = \"pass\", strip_large = 1, colour = 1",
-        "bad value",
-        "strip_large",
-    ),
-];
+const OF_PATTERNS: &str = r#"community = "*:0", action = "pass" | bad value | community
+community = "*:*", action = "pass" | bad value | community
+community = "64500:**", action = "pass" | bad value | community
+community = "0:Peer", action = "pass" | bad value | community
+community = "0:peer:0", action = "pass" | bad value | community
+large_community = 1, action = "pass" | bad value | large_community
+large_community = "64500:0", action = "pass" | bad value | large_community
+large_community = "64500:0:0:0", action = "pass" | bad value | large_community
+large_community = "64500:0:4294967296", action = "pass" | bad value | large_community
+large_community = "64500:00:1", action = "pass" | bad value | large_community
+large_community = "*:0:0", action = "pass" | bad value | large_community
+large_community = "*:*:*", action = "pass" | bad value | large_community
+large_community = "64500:*:0", action = "pass" | bad value | large_community
+large_community = "64500:*:peer", action = "pass" | bad value | large_community
+large_community = "64500::0", action = "pass" | bad value | large_community
+large_community = 1, community = 1, action = "pass" | bad value | community
+large_community = 1, next_hop_is_peer = 1, action = "pass" | bad value | large_community
+action = "pass", strip = ["*:0"] | bad value | strip
+action = "pass", strip = ["0:peer"] | bad value | strip
+action = "pass", strip = ["64500:0:0"] | bad value | strip
+action = "drop", strip_large = [] | bad value | strip_large
+action = "drop", strip_large = "all" | bad value | strip_large
+action = "pass", strip_large = "none" | bad value | strip_large
+action = "pass", strip_large = [1] | bad value | strip_large
+action = "pass", strip_large = ["64500:1"] | bad value | strip_large
+action = "pass", strip_large = ["64500:0:*", "*:0:0"] | bad value | strip_large
+action = "pass", strip_large = ["64500:0:peer"] | bad value | strip_large
+action = "pass", strip_large = 1, strip = 1 | bad value | strip
+action = "pass", strip_large = 1, colour = 1 | bad value | strip_large"#;
 
 /// A second client with these keys is answered by this.
 fn second_is_answered(rt: &impl Abort, alloc: Global, rest: &str, want: &str) {
@@ -431,24 +212,25 @@ fn rule_is_answered(rt: &impl Abort, alloc: Global, list: &str, rule: &str, want
 }
 
 /// A rule of this list has a fault of this cause at this key.
-fn rule_is_faulty(rt: &impl Abort, alloc: Global, list: &str, row: &(&str, &str, &str)) {
-    let (rule, cause, key) = *row;
+fn rule_is_faulty(rt: &impl Abort, alloc: Global, list: &str, row: &str) {
+    let (rule, fault) = parts(row);
+    let (cause, key) = parts(fault);
     let want = text_of(rt, alloc, &[cause, " client 1 ", list, " 2 ", key]);
     rule_is_answered(rt, alloc, list, rule, want.as_str());
 }
 
 /// A rule of either list has the fault.
-fn is_faulty_in_both(rt: &impl Abort, alloc: Global, row: &(&str, &str, &str)) {
+fn is_faulty_in_both(rt: &impl Abort, alloc: Global, row: &str) {
     rule_is_faulty(rt, alloc, "import", row);
     rule_is_faulty(rt, alloc, "export", row);
 }
 
 #[test]
 fn faults_in_a_rule(rt: HostRuntime) {
-    for row in &IN_A_RULE {
+    for row in IN_A_RULE.lines() {
         is_faulty_in_both(&rt, rt.alloc(), row);
     }
-    for row in &OF_PATTERNS {
+    for row in OF_PATTERNS.lines() {
         is_faulty_in_both(&rt, rt.alloc(), row);
     }
 }
