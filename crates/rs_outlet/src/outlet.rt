@@ -272,8 +272,9 @@ impl Outlet {
         self.asked = true;
     }
 
-    /// Begins the next message, where none is in flight.
-    pub fn begin(&mut self)
+    /// Begins the next message, where none is in flight. The Adj-RIBs-In tell which attributes are of one set, so that it
+    /// finds those that it tells of together.
+    pub fn begin(&mut self, ins: &AdjIns)
         ensures client { self.new.client ≡ self.old.client }
         ensures extended { self.new.extended ≡ self.old.extended }
         ensures rest { self.new ≡ record self.old { told = self.new.told; flight = self.new.flight; keepalive_due = self.new.keepalive_due; note = self.new.note; marked = self.new.marked; waits = self.new.waits } }
@@ -288,7 +289,7 @@ impl Outlet {
         if self.start < self.end {
             return;
         }
-        self.begin_next();
+        self.begin_next(ins);
     }
 
     /// The first octets in flight were taken.

@@ -22,6 +22,7 @@ use crate::outlet::Outlet;
 use crate::sizes::most_prefixes;
 use crate::table::Rows;
 use crate::waiting::Waits;
+use rs_adjin::AdjIns;
 use rs_attrs::{Attrs, Mode, attributes_are_legal};
 use rs_octets::Prefix;
 use rs_open::{Limit, Short, write_keepalive, write_note};
@@ -222,7 +223,7 @@ fn put_update(
 
 impl Outlet {
     /// Begins the next message, if there is one. None is in flight.
-    pub(crate) fn begin_next(&mut self)
+    pub(crate) fn begin_next(&mut self, ins: &AdjIns)
         ensures rest { self.new ≡ record self.old { told = self.new.told; flight = self.new.flight; keepalive_due = self.new.keepalive_due; note = self.new.note; marked = self.new.marked; waits = self.new.waits } }
         ensures note { (note : Short) → self.old.note ≡ Some note → self.new ≡ record self.old { flight = note_octets note; note = None } }
         ensures keepalive { self.old.note ≡ None → self.old.keepalive_due ≡ true → self.new ≡ record self.old { flight = keepalive; keepalive_due = false } }
@@ -236,7 +237,7 @@ impl Outlet {
         } else if self.keepalive_due {
             self.begin_keepalive();
         } else if let Some(speech) = self.speech {
-            self.begin_update(speech);
+            self.begin_update(speech, ins);
         }
     }
 
@@ -257,7 +258,7 @@ impl Outlet {
     }
 
     /// Begins the next UPDATE, if something waits.
-    fn begin_update(&mut self, speech: Speech)
+    fn begin_update(&mut self, speech: Speech, ins: &AdjIns)
         requires { self.old.speech ≡ Some speech }
         ensures begins { (spoken : Speech) → self.old.speech ≡ Some spoken → BeginsUpdate spoken self.old self.new }
         ensures rest { self.new ≡ record self.old { told = self.new.told; flight = self.new.flight; marked = self.new.marked; waits = self.new.waits } }
@@ -265,7 +266,7 @@ impl Outlet {
         self.asked = false;
         self.front.clear();
         self.chosen.clear();
-        self.waits.prepare(&self.rows);
+        self.waits.prepare(&self.rows, ins);
         let packed = put_update(
             &self.rows,
             &mut self.waits,

@@ -24,7 +24,7 @@ mod marking;
 mod merging;
 mod parts;
 
-use crate::waiting::chains::Hashed;
+use crate::waiting::chains::Keyed;
 use crate::waiting::parts::{open_in, sort_from};
 use rs_attrs::Attrs;
 use rs_octets::Prefix;
@@ -73,8 +73,8 @@ pub(crate) struct Waits {
     /// For each slot of the first part the next one that may have its attributes; none where slots are not chained.
     pub(crate) chains: Vec<u32>,
     /// While slots are chained: those that are to be announced, in the order in which they were chained.
-    pub(crate) order: Vec<Hashed>,
-    /// Slots of one hash are chained by their attributes too.
+    pub(crate) order: Vec<Keyed>,
+    /// Slots are chained by their very attributes, and not by the hash of these.
     pub(crate) exact: bool,
     /// How many slots messages went through slot by slot since the first part was made.
     pub(crate) walked: usize,

@@ -146,10 +146,10 @@ impl Exchange {
 fn let_go(_exchange: Exchange, _outlet: Outlet) {}
 
 /// Takes all messages that wait, and answers their octets.
-fn drain(rt: &impl Abort, alloc: Global, outlet: &mut Outlet) -> Vec<u8> {
-    let mut taken = Vec::new(alloc);
+fn drain(rt: &impl Abort, exchange: &Exchange, outlet: &mut Outlet) -> Vec<u8> {
+    let mut taken = Vec::new(exchange.alloc);
     for _ in 0..1_000u32 {
-        outlet.begin();
+        outlet.begin(&exchange.tables);
         put(rt, &mut taken, outlet.lent());
         let count = outlet.lent().len();
         outlet.took(count);
@@ -213,7 +213,7 @@ fn is_drained(rt: &impl Abort, outlet: &Outlet) {
 fn tells_again(rt: &impl Abort, exchange: &Exchange, outlet: &mut Outlet, told: &[u8]) {
     outlet.again();
     is_so(rt, !outlet.is_drained(), "some waits");
-    let again = drain(rt, exchange.alloc, outlet);
+    let again = drain(rt, exchange, outlet);
     equals(rt, again.as_slice(), told);
     is_drained(rt, outlet);
 }
@@ -223,7 +223,7 @@ fn all_is_told_again(rt: HostRuntime) {
     let exchange = Exchange::with_routes(&rt, rt.alloc(), 3_000);
     let mut outlet = exchange.outlet(&rt, CLIENT);
     exchange.decides(&rt, &mut outlet, all(3_000));
-    let first = drain(&rt, exchange.alloc, &mut outlet);
+    let first = drain(&rt, &exchange, &mut outlet);
     is_drained(&rt, &outlet);
     // 3,000 prefixes of 4 octets each, in messages of at most 4,096 octets
     is_so(&rt, first.len() > 12_000, "as long as its prefixes");
@@ -237,9 +237,9 @@ fn all_is_told_again_to_one_who_took_a_part(rt: HostRuntime) {
     let exchange = Exchange::with_routes(&rt, rt.alloc(), 3_000);
     let mut outlet = exchange.outlet(&rt, CLIENT);
     exchange.decides(&rt, &mut outlet, all(3_000));
-    let first = drain(&rt, exchange.alloc, &mut outlet);
+    let first = drain(&rt, &exchange, &mut outlet);
     outlet.again();
-    outlet.begin();
+    outlet.begin(&exchange.tables);
     let part = outlet.lent().len();
     outlet.took(part);
     tells_again(&rt, &exchange, &mut outlet, &first);

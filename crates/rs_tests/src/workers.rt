@@ -203,9 +203,9 @@ fn have_decided(rt: &impl Abort, all: &[Outlet], count: usize, decided: usize) {
 }
 
 /// Takes one message from each of two outlets. Whether both gave the same octets, or both none.
-fn give_the_same(one: &mut Outlet, other: &mut Outlet) -> bool {
-    one.begin();
-    other.begin();
+fn give_the_same(tables: &AdjIns, one: &mut Outlet, other: &mut Outlet) -> bool {
+    one.begin(tables);
+    other.begin(tables);
     let is_same = one.lent() == other.lent();
     let taken = one.lent().len();
     one.took(taken);
@@ -215,12 +215,12 @@ fn give_the_same(one: &mut Outlet, other: &mut Outlet) -> bool {
 }
 
 /// Whether two outlets answered the same and send the same messages, until both are drained.
-fn are_alike(one: &mut Outlet, other: &mut Outlet) -> bool {
+fn are_alike(tables: &AdjIns, one: &mut Outlet, other: &mut Outlet) -> bool {
     if one.last() != other.last() {
         return false;
     }
     for _ in 0..100_000u32 {
-        if !give_the_same(one, other) {
+        if !give_the_same(tables, one, other) {
             return false;
         }
         if one.is_drained() || other.is_drained() {
@@ -273,7 +273,8 @@ fn is_the_same<R: Threads + Wait + Sync + Abort>(rt: &R, exchange: &mut Exchange
     let mut all = exchange.turned(rt, workers, &Free);
     have_decided(rt, &all, 7, 10_000);
     for (one, other) in alone.iter_mut().zip(all.iter_mut()) {
-        is_of(rt, are_alike(one, other), true, &("workers", workers));
+        let alike = are_alike(&exchange.tables, one, other);
+        is_of(rt, alike, true, &("workers", workers));
     }
 }
 

@@ -1,5 +1,5 @@
 -- Chains of slots: how they come of slots that are in order, and what leaves them as they are.
-use Rattle.std.proofs.Common.{◌≡◌, ◌≢◌, ◌<◌, ◌≤◌, ℕ, zero, suc, Bool, true, false, ◌&&◌, not, cond, Option, None, Some, List, [], ◌∷◌, ◌++◌, length, slice_set, take, refl, sym, ap, ◌∙◌, subst, arith, inl, inr}
+use Rattle.std.proofs.Common.{◌≡◌, ◌≢◌, ◌<◌, ◌≤◌, ◌==◌, ℕ, zero, suc, Bool, true, false, ◌&&◌, not, cond, Option, None, Some, List, [], ◌∷◌, ◌++◌, length, slice_set, take, refl, sym, ap, ◌∙◌, subst, arith, inl, inr}
 use Rattle.std.specs.Prelude.{◌⊎◌, option_map, slice_get}
 use Rattle.std.specs.Arc.{arc_value}
 use Rattle.std.specs.List.{AllWithin, Contains}
@@ -20,11 +20,11 @@ use Rattle.rs_outlet.specs.declared.rows.Row.{Row}
 use Rattle.rs_outlet.specs.declared.waiting.Due.{Due}
 use Rattle.rs_outlet.specs.declared.waiting.Due.TheVariants as due
 use Rattle.rs_outlet.specs.declared.waiting.Wait.{Wait}
-use Rattle.rs_outlet.specs.declared.waiting.chains.Hashed.{Hashed}
+use Rattle.rs_outlet.specs.declared.waiting.chains.Keyed.{Keyed}
 use Rattle.rs_outlet.specs.Inside.{AreChained, IsBacked, prefix_and_hash, row_at, row_by, shown}
 use Rattle.rs_outlet.specs.Message.Next.{has_attributes}
 use Rattle.rs_outlet.specs.Pending.Slots.{AreByHash, hash_of}
-use Rattle.rs_outlet.specs.Pending.Chains.{AreHashed, AreLinked, IsBefore, IsHashed, Leads, AreInOrder, by_rows, due_by, due_there, or_none}
+use Rattle.rs_outlet.specs.Pending.Chains.{AreInOrder, AreKeyed, AreLinked, IsBefore, IsKeyed, Leads, attributes_if, by_rows, due_by, due_there, key_at, key_by, no_set, or_none}
 use Rattle.rs_outlet.specs.Pending.Choosing.{shares}
 
 -- ---- what leaves chains as they are
@@ -166,13 +166,13 @@ level_at m n e = sym (ap (attributes_cmp m) (sym e) ∙ tied_itself attributes_c
 pub level_is : (m n : List Attribute) → attributes_cmp m n ≡ Equal → m ≡ n
 level_is m n h = (attributes_cmp_decides m n).0 (ap is_eq h)
 
-module _ (a : Hashed → List Attribute) where
-  not_before_itself : (e : Hashed) → IsBefore a e e → ⊥
+module _ (a : Keyed → List Attribute) where
+  not_before_itself : (e : Keyed) → IsBefore a e e → ⊥
   not_before_itself e (inl less) = absurd (omega (arith, less))
   not_before_itself e (inr (same, inl less)) = not_less (a e) less
   not_before_itself e (inr (same, inr (level, less))) = absurd (omega (arith, less))
 
-  before_trans : (e f g : Hashed) → IsBefore a e f → IsBefore a f g → IsBefore a e g
+  before_trans : (e f g : Keyed) → IsBefore a e f → IsBefore a f g → IsBefore a e g
   before_trans e f g (inl x) (inl y) = inl (omega (arith, x, y))
   before_trans e f g (inl x) (inr (h, y)) = inl (omega (arith, x, h))
   before_trans e f g (inr (h, x)) (inl y) = inl (omega (arith, h, y))
@@ -182,7 +182,7 @@ module _ (a : Hashed → List Attribute) where
   before_trans e f g (inr (h, inr (is, x))) (inr (k, inr (also, y))) = inr (h ∙ k, inr (is ∙ also, omega (arith, x, y)))
 
   -- what comes between two with the same attributes has them too
-  between : (e g f : Hashed) → IsBefore a e g → IsBefore a g f → e.hash ≡ f.hash → a e ≡ a f → (g.hash ≡ e.hash) × (a g ≡ a e) × (g.slot < f.slot)
+  between : (e g f : Keyed) → IsBefore a e g → IsBefore a g f → e.key ≡ f.key → a e ≡ a f → (g.key ≡ e.key) × (a g ≡ a e) × (g.slot < f.slot)
   between e g f (inl x) (inl y) same is = absurd (omega (arith, x, y, same))
   between e g f (inl x) (inr (h, y)) same is = absurd (omega (arith, x, h, same))
   between e g f (inr (h, x)) (inl y) same is = absurd (omega (arith, h, y, same))
@@ -192,7 +192,7 @@ module _ (a : Hashed → List Attribute) where
   between e g f (inr (h, inr (also, x))) (inr (k, inr (too, y))) same is = (sym h, sym also, y)
 
   -- each comes before all behind it
-  rise_on : (es : List Hashed) → AreInOrder a es (length es) → (i j : ℕ) (e f : Hashed) → i < j → slice_get es i ≡ Some e → slice_get es j ≡ Some f → IsBefore a e f
+  rise_on : (es : List Keyed) → AreInOrder a es (length es) → (i j : ℕ) (e f : Keyed) → i < j → slice_get es i ≡ Some e → slice_get es j ≡ Some f → IsBefore a e f
   rise_on es rise i zero e f less at to = absurd (omega (arith, less))
   rise_on es rise i (suc j) e f less at to = elim (cases_eq i j) [
     | inl same ↦ rise j e f (let w = slice_get_within es (suc j) f to in omega (arith, w)) (ap (slice_get es) (sym same) ∙ at) to
@@ -204,8 +204,8 @@ module _ (a : Hashed → List Attribute) where
   ]
 
   -- one that comes before another with its attributes leads no further than there
-  leads_on : (es : List Hashed) → AreInOrder a es (length es) → (i j chain : ℕ) (e f : Hashed) → slice_get es i ≡ Some e → slice_get es j ≡ Some f → e.hash ≡ f.hash → a e ≡ a f → e.slot < f.slot
-      → ((g : Hashed) → slice_get es (suc i) ≡ Some g → g.hash ≡ e.hash → a g ≡ a e → chain ≤ g.slot) → chain ≤ f.slot
+  leads_on : (es : List Keyed) → AreInOrder a es (length es) → (i j chain : ℕ) (e f : Keyed) → slice_get es i ≡ Some e → slice_get es j ≡ Some f → e.key ≡ f.key → a e ≡ a f → e.slot < f.slot
+      → ((g : Keyed) → slice_get es (suc i) ≡ Some g → g.key ≡ e.key → a g ≡ a e → chain ≤ g.slot) → chain ≤ f.slot
   leads_on es rise i j chain e f at to same is less leads = elim (cases_lt i j) [
     | inr past ↦
         let before : IsBefore a e f = inr (same, inr (is, less)) in
@@ -252,112 +252,121 @@ announced : (d : Due) (hash : ℕ) → hash_of d ≡ Some hash → (number : ℕ
 announced due.Withdrawn hash is = absurd (let f : ◌≡◌ {A = Option ℕ} None (Some hash) = is in cc)
 announced (due.Announced number own) hash is = (number, ap (due.Announced number) (same_Some own hash is))
 
-listed_at : (es : List Hashed) (e : Hashed) → Contains es e → (j : ℕ) × (slice_get es j ≡ Some e)
+listed_at : (es : List Keyed) (e : Keyed) → Contains es e → (j : ℕ) × (slice_get es j ≡ Some e)
 listed_at es e (k, below, at) = (k, slice_get_read es (length es) k e refl below (sym at))
 
-contains_at : (es : List Hashed) (i : ℕ) (e : Hashed) → slice_get es i ≡ Some e → Contains es e
+contains_at : (es : List Keyed) (i : ℕ) (e : Keyed) → slice_get es i ≡ Some e → Contains es e
 contains_at es i e at = (i, slice_get_within es i e at, get_or_from_slice_get es i e e at)
 
-module _ (rows : List (Option Row)) (ws : List Wait) where
-  due_is : (e : Hashed) (w : Wait) (m : List Attribute) → slice_get ws e.slot ≡ Some w → shown (row_by rows w.due) ≡ Some m → due_there rows ws e ≡ m
+module _ (exact : Bool) (set_of : List Attribute → Option ℕ) (rows : List (Option Row)) (ws : List Wait) where
+  due_is : (e : Keyed) (w : Wait) (m : List Attribute) → slice_get ws e.slot ≡ Some w → shown (row_by rows w.due) ≡ Some m → due_there rows ws e ≡ m
   due_is e w m at is = ap (by_rows rows) at ∙ ap or_none is
 
-  alike_by : (b : Bool) (e f : Hashed) → due_there rows ws e ≡ due_there rows ws f → due_by b rows ws e ≡ due_by b rows ws f
-  alike_by true e f is = is
-  alike_by false e f is = refl
+  alike_by : (e f : Keyed) → e.key ≡ f.key → due_there rows ws e ≡ due_there rows ws f → due_by exact rows ws e ≡ due_by exact rows ws f
+  unfolding due_by
+  alike_by e f same is = ap (λ k. attributes_if (exact && k == no_set) (due_there rows ws e)) same ∙ ap (attributes_if (exact && f.key == no_set)) is
 
-  -- what stands between a slot and the one that it leads to is told apart from it
-  passed_over : (a : Hashed → List Attribute) (es : List Hashed) (chains : List ℕ) → AreHashed ws (length ws) es → AreInOrder a es (length es) → AreLinked a es chains
+  -- what stands between a slot and the one that it leads to, and has its key, is told apart from it
+  passed_over : (a : Keyed → List Attribute) (es : List Keyed) (chains : List ℕ) → AreKeyed exact set_of rows ws (length ws) es → AreInOrder a es (length es) → AreLinked a es chains
       → (n m chain hash : ℕ) (w z : Wait) → slice_get chains n ≡ Some chain → slice_get ws n ≡ Some w → slice_get ws m ≡ Some z → n < m → m < chain → z.open ≡ true → hash_of w.due ≡ Some hash → hash_of z.due ≡ Some hash
-      → a (record { hash = hash; slot = n }) ≢ a (record { hash = hash; slot = m })
-  passed_over a es chains hashed rise linked n m chain hash w z at from to later below opened w_hash z_hash = λ same. go same (linked n chain at)
+      → key_at exact set_of rows w hash ≡ key_at exact set_of rows z hash
+      → a (record { key = key_at exact set_of rows w hash; slot = n }) ≢ a (record { key = key_at exact set_of rows z hash; slot = m })
+  passed_over a es chains keyed rise linked n m chain hash w z at from to later below opened w_hash z_hash alike = λ same. go same (linked n chain at)
     where
-      go : a (record { hash = hash; slot = n }) ≡ a (record { hash = hash; slot = m }) → Leads a es n chain → ⊥
+      own : ℕ
+      own = key_at exact set_of rows w hash
+
+      go : a (record { key = own; slot = n }) ≡ a (record { key = key_at exact set_of rows z hash; slot = m }) → Leads a es n chain → ⊥
       go same (inl nowhere) = absurd (omega (arith, nowhere, below))
       go same (inr (i, e, e_at, e_slot, leads)) =
-          let j = hashed.just e (contains_at es i e e_at) in
-          let w_is : j.0 ≡ w = same_Some j.0 w (sym j.2 ∙ ap (slice_get ws) e_slot ∙ from) in
-          let w_due : w.due ≡ due.Announced j.1 e.hash = ap (λ (v : Wait). v.due) (sym w_is) ∙ j.4 in
-          let e_hash : e.hash ≡ hash = same_Some e.hash hash (sym (ap hash_of w_due) ∙ w_hash) in
-          let whole : e ≡ record { hash = hash; slot = n } = (λ i. record { hash = e_hash i; slot = e_slot i }) in
+          let j = keyed.just e (contains_at es i e e_at) in
+          let w_is : j.wait ≡ w = same_Some j.wait w (sym j.at ∙ ap (slice_get ws) e_slot ∙ from) in
+          let w_due : w.due ≡ due.Announced j.number j.hash = ap (λ (v : Wait). v.due) (sym w_is) ∙ j.due in
+          let j_hash : j.hash ≡ hash = same_Some j.hash hash (sym (ap hash_of w_due) ∙ w_hash) in
+          let e_key : e.key ≡ own = j.key ∙ ap (λ (v : Wait). key_at exact set_of rows v j.hash) w_is ∙ ap (key_at exact set_of rows w) j_hash in
+          let whole : e ≡ record { key = own; slot = n } = (λ i. record { key = e_key i; slot = e_slot i }) in
           let d = announced z.due hash z_hash in
-          let f : Hashed = record { hash = hash; slot = m } in
-          let k = listed_at es f (hashed.all m d.0 hash z to (slice_get_within ws m z to) opened d.1) in
+          let f : Keyed = record { key = key_at exact set_of rows z hash; slot = m } in
+          let k = listed_at es f (keyed.all m d.0 hash z to (slice_get_within ws m z to) opened d.1) in
           let less : e.slot < f.slot = omega (arith, e_slot, later) in
-          let most : chain ≤ m = leads_on a es rise i k.0 chain e f e_at k.1 e_hash (ap a whole ∙ same) less leads in
+          let most : chain ≤ m = leads_on a es rise i k.0 chain e f e_at k.1 (e_key ∙ alike) (ap a whole ∙ same) less leads in
           absurd (omega (arith, most, below))
 
-  pub linked_by_hash : (b : Bool) (es : List Hashed) (chains : List ℕ) → AreHashed ws (length ws) es → AreInOrder (due_by b rows ws) es (length es) → AreLinked (due_by b rows ws) es chains → b ≡ false → AreByHash ws chains
-  linked_by_hash true es chains hashed rise linked is = absurd (cc)
-  linked_by_hash false es chains hashed rise linked is = λ n m chain hash w z at from to later below opened w_hash z_hash.
-      passed_over (due_by false rows ws) es chains hashed rise linked n m chain hash w z at from to later below opened w_hash z_hash refl
+  pub linked_chained : (es : List Keyed) (chains : List ℕ) → AreKeyed exact set_of rows ws (length ws) es → AreInOrder (due_by exact rows ws) es (length es) → AreLinked (due_by exact rows ws) es chains → AreChained rows ws chains
+  linked_chained es chains keyed rise linked n m chain hash w z a at from to later below opened w_hash z_hash is = λ also.
+      let same : shown (row_by rows w.due) ≡ shown (row_by rows z.due) = is ∙ sym also in
+      let alike : key_at exact set_of rows w hash ≡ key_at exact set_of rows z hash = ap (λ o. key_by exact set_of (or_none o) hash) same in
+      let e : Keyed = record { key = key_at exact set_of rows w hash; slot = n } in
+      let f : Keyed = record { key = key_at exact set_of rows z hash; slot = m } in
+      passed_over (due_by exact rows ws) es chains keyed rise linked n m chain hash w z at from to later below opened w_hash z_hash alike
+      (alike_by e f alike (due_is e w a from is ∙ sym (due_is f z a to also)))
 
-  pub linked_chained : (b : Bool) (es : List Hashed) (chains : List ℕ) → AreHashed ws (length ws) es → AreInOrder (due_by b rows ws) es (length es) → AreLinked (due_by b rows ws) es chains → AreChained rows ws chains
-  linked_chained b es chains hashed rise linked n m chain hash w z a at from to later below opened w_hash z_hash is = λ also.
-      let e : Hashed = record { hash = hash; slot = n } in
-      let f : Hashed = record { hash = hash; slot = m } in
-      passed_over (due_by b rows ws) es chains hashed rise linked n m chain hash w z at from to later below opened w_hash z_hash
-      (alike_by b e f (due_is e w a from is ∙ sym (due_is f z a to also)))
+-- slots that are chained by the hash that they say
+pub linked_by_hash : (exact : Bool) (set_of : List Attribute → Option ℕ) (rows : List (Option Row)) (ws : List Wait) (es : List Keyed) (chains : List ℕ) → AreKeyed exact set_of rows ws (length ws) es → AreInOrder (due_by exact rows ws) es (length es) → AreLinked (due_by exact rows ws) es chains → exact ≡ false → AreByHash ws chains
+unfolding due_by
+linked_by_hash true set_of rows ws es chains keyed rise linked is = absurd (cc)
+linked_by_hash false set_of rows ws es chains keyed rise linked is = λ n m chain hash w z at from to later below opened w_hash z_hash.
+    passed_over false set_of rows ws (due_by false rows ws) es chains keyed rise linked n m chain hash w z at from to later below opened w_hash z_hash refl refl
 
 -- ---- slots listed
 
-pub none_hashed : (ws : List Wait) (es : List Hashed) → es ≡ [] → AreHashed ws 0 es
-none_hashed ws es none = record {
-  just = λ e there. absurd (let below : there.0 < length es = there.1 in omega (arith, below, ap length none));
-  all = λ m number hash z at below opened is. absurd (omega (arith, below));
-}
+module _ (exact : Bool) (set_of : List Attribute → Option ℕ) (rows : List (Option Row)) (ws : List Wait) where
+  pub none_keyed : (es : List Keyed) → es ≡ [] → AreKeyed exact set_of rows ws 0 es
+  none_keyed es none = record {
+    just = λ e there. absurd (let below : there.0 < length es = there.1 in omega (arith, below, ap length none));
+    all = λ m number hash z at below opened is. absurd (omega (arith, below));
+  }
 
--- one slot more that is not to be announced
-pub hashed_past : (ws : List Wait) (n : ℕ) (w : Wait) (es : List Hashed) → slice_get ws n ≡ Some w → (w.open ≡ true → (number hash : ℕ) → w.due ≢ due.Announced number hash) → AreHashed ws n es → AreHashed ws (suc n) es
-hashed_past ws n w es at none are = record {
-  just = are.just;
-  all = λ m number hash z to below opened is. elim (cases_eq m n) [
-    | inl e ↦
-        let same : z ≡ w = same_Some z w (sym to ∙ ap (slice_get ws) e ∙ at) in
-        absurd (none (ap (λ (v : Wait). v.open) (sym same) ∙ opened) number hash (ap (λ (v : Wait). v.due) (sym same) ∙ is))
-    | inr ne ↦ are.all m number hash z to (let apart : m ≢ n = ne in omega (arith, below, apart)) opened is
-  ];
-}
+  -- one slot more that is not to be announced
+  pub keyed_past : (n : ℕ) (w : Wait) (es : List Keyed) → slice_get ws n ≡ Some w → (w.open ≡ true → (number hash : ℕ) → w.due ≢ due.Announced number hash) → AreKeyed exact set_of rows ws n es → AreKeyed exact set_of rows ws (suc n) es
+  keyed_past n w es at none are = record {
+    just = are.just;
+    all = λ m number hash z to below opened is. elim (cases_eq m n) [
+      | inl e ↦
+          let same : z ≡ w = same_Some z w (sym to ∙ ap (slice_get ws) e ∙ at) in
+          absurd (none (ap (λ (v : Wait). v.open) (sym same) ∙ opened) number hash (ap (λ (v : Wait). v.due) (sym same) ∙ is))
+      | inr ne ↦ are.all m number hash z to (let apart : m ≢ n = ne in omega (arith, below, apart)) opened is
+    ];
+  }
 
--- one slot more that is
-pub hashed_more : (ws : List Wait) (n : ℕ) (w : Wait) (es es' : List Hashed) (e : Hashed) (number : ℕ) → slice_get ws n ≡ Some w → w.open ≡ true → w.due ≡ due.Announced number e.hash → e.slot ≡ n → es' ≡ es ++ e ∷ [] → AreHashed ws n es → AreHashed ws (suc n) es'
-hashed_more ws n w es es' e number at opened is slot added are =
-    subst (AreHashed ws (suc n)) (sym added) (record {
-      just = λ f there. elim (Contains-append_cases es (e ∷ []) f there) [
-        | inl old ↦ are.just f old
-        | inr new ↦
-            let same : e ≡ f = only f new in
-            subst (IsHashed ws) same (w, number, ap (slice_get ws) slot ∙ at, opened, is)
-      ];
-      all = λ m other hash z to below wopen wis. elim (cases_eq m n) [
-        | inl here ↦
-            let same : z ≡ w = same_Some z w (sym to ∙ ap (slice_get ws) here ∙ at) in
-            let due_is : due.Announced other hash ≡ due.Announced number e.hash = sym wis ∙ ap (λ (v : Wait). v.due) same ∙ is in
-            let hash_is : hash ≡ e.hash = ap hash_in due_is in
-            let whole : record { hash = hash; slot = m } ≡ e = (λ i. record { hash = hash_is i; slot = (here ∙ sym slot) i }) in
-            subst (Contains (es ++ e ∷ [])) (sym whole) (Contains-append_right es (e ∷ []) e (0, omega arith, refl))
-        | inr ne ↦ Contains-append_left es (e ∷ []) _ (are.all m other hash z to (let apart : m ≢ n = ne in omega (arith, below, apart)) wopen wis)
-      ];
-    })
-  where
-    hash_in : Due → ℕ
-    hash_in due.Withdrawn = 0
-    hash_in (due.Announced number hash) = hash
+  -- one slot more that is
+  pub keyed_more : (n : ℕ) (w : Wait) (es es' : List Keyed) (e : Keyed) (number hash : ℕ) → slice_get ws n ≡ Some w → w.open ≡ true → w.due ≡ due.Announced number hash → e.key ≡ key_at exact set_of rows w hash → e.slot ≡ n → es' ≡ es ++ e ∷ [] → AreKeyed exact set_of rows ws n es → AreKeyed exact set_of rows ws (suc n) es'
+  keyed_more n w es es' e number hash at opened is key slot added are =
+      subst (AreKeyed exact set_of rows ws (suc n)) (sym added) (record {
+        just = λ f there. elim (Contains-append_cases es (e ∷ []) f there) [
+          | inl old ↦ are.just f old
+          | inr new ↦ subst (IsKeyed exact set_of rows ws) (only f new) (record { wait = w; number = number; hash = hash; at = ap (slice_get ws) slot ∙ at; waits = opened; due = is; key = key })
+        ];
+        all = λ m other own z to below wopen wis. elim (cases_eq m n) [
+          | inl here ↦
+              let same : z ≡ w = same_Some z w (sym to ∙ ap (slice_get ws) here ∙ at) in
+              let due_is : due.Announced other own ≡ due.Announced number hash = sym wis ∙ ap (λ (v : Wait). v.due) same ∙ is in
+              let hash_is : own ≡ hash = ap hash_in due_is in
+              let key_is : key_at exact set_of rows z own ≡ e.key = ap (λ (v : Wait). key_at exact set_of rows v own) same ∙ ap (key_at exact set_of rows w) hash_is ∙ sym key in
+              let whole : record { key = key_at exact set_of rows z own; slot = m } ≡ e = (λ i. record { key = key_is i; slot = (here ∙ sym slot) i }) in
+              subst (Contains (es ++ e ∷ [])) (sym whole) (Contains-append_right es (e ∷ []) e (0, omega arith, refl))
+          | inr ne ↦ Contains-append_left es (e ∷ []) _ (are.all m other own z to (let apart : m ≢ n = ne in omega (arith, below, apart)) wopen wis)
+        ];
+      })
+    where
+      hash_in : Due → ℕ
+      hash_in due.Withdrawn = 0
+      hash_in (due.Announced number hash) = hash
 
-    only : (f : Hashed) → Contains (e ∷ []) f → e ≡ f
-    only f (zero, below, at) = at
-    only f (suc k, below, at) = absurd (omega (arith, below))
+      only : (f : Keyed) → Contains (e ∷ []) f → e ≡ f
+      only f (zero, below, at) = at
+      only f (suc k, below, at) = absurd (omega (arith, below))
 
--- the same slots in another order
-pub hashed_again : (ws : List Wait) (count : ℕ) (es es' : List Hashed) → IsPermutation es es' → AreHashed ws count es → AreHashed ws count es'
-hashed_again ws count es es' moved are = record {
-  just = λ e is. are.just e (Contains-permutation es' es e (IsPermutation-sym es es' moved) is);
-  all = λ m number hash z at below opened is. Contains-permutation es es' _ moved (are.all m number hash z at below opened is);
-}
+  -- the same slots in another order
+  pub keyed_again : (count : ℕ) (es es' : List Keyed) → IsPermutation es es' → AreKeyed exact set_of rows ws count es → AreKeyed exact set_of rows ws count es'
+  keyed_again count es es' moved are = record {
+    just = λ e is. are.just e (Contains-permutation es' es e (IsPermutation-sym es es' moved) is);
+    all = λ m number hash z at below opened is. Contains-permutation es es' _ moved (are.all m number hash z at below opened is);
+  }
 
 -- ---- chains made one by one
 
-module _ (a : Hashed → List Attribute) (es : List Hashed) where
+module _ (a : Keyed → List Attribute) (es : List Keyed) where
   pub none_linked : (chains : List ℕ) → chains ≡ [] → AreLinked a es chains
   none_linked chains none n chain at = absurd (let below = slice_get_within chains n chain at in omega (arith, below, ap length none))
 
@@ -375,8 +384,8 @@ module _ (a : Hashed → List Attribute) (es : List Hashed) where
       push_cases (l ∷ ls) zero chain h = inl h
       push_cases (l ∷ ls) (suc n) chain h = push_cases ls n chain h
 
-  pub linked_more : (chains : List ℕ) (i n chain was : ℕ) (e : Hashed) → slice_get es i ≡ Some e → e.slot ≡ n → slice_get chains n ≡ Some was
-      → ((f : Hashed) → slice_get es (suc i) ≡ Some f → f.hash ≡ e.hash → a f ≡ a e → chain ≤ f.slot) → AreLinked a es chains → AreLinked a es (slice_set chains n chain)
+  pub linked_more : (chains : List ℕ) (i n chain was : ℕ) (e : Keyed) → slice_get es i ≡ Some e → e.slot ≡ n → slice_get chains n ≡ Some was
+      → ((f : Keyed) → slice_get es (suc i) ≡ Some f → f.key ≡ e.key → a f ≡ a e → chain ≤ f.slot) → AreLinked a es chains → AreLinked a es (slice_set chains n chain)
   linked_more chains i n chain was e at slot old leads are k to there = elim (cases_eq k n) [
     | inl here ↦
         let same : chain ≡ to = same_Some chain to (sym (set_here chains n chain was old) ∙ sym (ap (slice_get (slice_set chains n chain)) here) ∙ there) in
@@ -384,7 +393,7 @@ module _ (a : Hashed → List Attribute) (es : List Hashed) where
     | inr ne ↦ are k to (sym (set_apart chains n chain k ne) ∙ there)
   ]
 
-  pub rise_more : (n : ℕ) → ((e f : Hashed) → slice_get es n ≡ Some e → slice_get es (suc n) ≡ Some f → IsBefore a e f) → AreInOrder a es n → AreInOrder a es (suc n)
+  pub rise_more : (n : ℕ) → ((e f : Keyed) → slice_get es n ≡ Some e → slice_get es (suc n) ≡ Some f → IsBefore a e f) → AreInOrder a es n → AreInOrder a es (suc n)
   rise_more n next rise k e f below at to = elim (cases_eq k n) [
     | inl here ↦ next e f (ap (slice_get es) (sym here) ∙ at) (ap (λ j. slice_get es (suc j)) (sym here) ∙ to)
     | inr ne ↦ rise k e f (let apart : k ≢ n = ne in omega (arith, below, apart)) at to

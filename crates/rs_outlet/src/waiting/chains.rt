@@ -1,10 +1,11 @@
 //! The chains of the slots that wait: each slot that is to be announced leads to the next one that may have
 //! its attributes, so that a message goes along a chain and meets few others.
 //!
-//! The slots are put in order by a hash of their attributes, which each has already, and by place, so that
-//! no attributes are compared. A member can choose attributes that share one hash: where a message passed
-//! over many slots of its hash, the slots are put in order by their attributes too from then on, and those
-//! with the same attributes lie side by side.
+//! The slots are put in order by a key and by place, and those of one key are chained. The key is the hash of
+//! their attributes, which each has already, so that no attributes are compared. A member can choose
+//! attributes that share one hash: where a message passed over many slots of its hash, the key is from then on
+//! the number of the set of their attributes, which the Adj-RIBs-In found by order when they were heard.
+//! Attributes of no such set, as rules make them, are put in order by themselves.
 
 ghost use Rattle.std.specs.Prelude.{◌≡◌, ◌<◌, ◌≤◌, ◌++◌, ◌∷◌, [], ℕ, suc, List, Option, Some, IfSome, IsSome, IsTrue, false, true, nat_lt, slice_get, length, take, vec_len, if◌then◌else◌};
 ghost use Rattle.std.specs.Arc.{arc_value};
@@ -12,16 +13,18 @@ ghost use Rattle.std.specs.List.{HoldsAt};
 ghost use Rattle.std.specs.List.Sorted.{IsPermutation};
 ghost use Rattle.std.specs.Vec.{vec_capacity};
 ghost use Rattle.rs_attrs.specs.Meaning.{Attribute};
+ghost use Rattle.rs_adjin.specs.AdjIns.{set_of};
 ghost use Rattle.rs_attrs.specs.Comparing.{attributes_cmp, attributes_hash};
 ghost use Rattle.rs_outlet.specs.declared.rows.Row.{Row};
 ghost use Rattle.rs_outlet.specs.declared.waiting.Wait.{Wait};
-ghost use Rattle.rs_outlet.specs.Inside.{AreBacked, AreChained, row_by, shown};
+ghost use Rattle.rs_outlet.specs.Inside.{AreBacked, AreChained, row_at, row_by, shown};
 ghost use Rattle.rs_outlet.specs.Pending.Slots.{AreByHash, hash_of};
-ghost use Rattle.rs_outlet.specs.Pending.Chains.{AreHashed, AreInOrder, AreLinked, IsBefore, due_by, due_there};
+ghost use Rattle.rs_outlet.specs.Pending.Chains.{AreInOrder, AreKeyed, AreLinked, IsBefore, due_by, due_there, key_by, or_none};
 ghost use Rattle.rs_outlet.specs.Pending.Choosing.{shares};
 
 use crate::table::Rows;
 use crate::waiting::{Due, Wait, Waits};
+use rs_adjin::AdjIns;
 use rs_attrs::Attrs;
 use std::cmp::Ordering;
 use std::sync::Arc;
@@ -29,11 +32,30 @@ use std::sync::Arc;
 /// No slot.
 const END: u32 = 0xffff_ffff;
 
-/// A slot that is to be announced, and the hash of its attributes.
+/// The key of attributes of no set.
+const NO_SET: u32 = 0xffff_ffff;
+
+/// A slot that is to be announced, and the key by which it is chained.
 #[derive(Clone, Copy)]
-pub(crate) struct Hashed {
-    pub(crate) hash: u32,
+pub(crate) struct Keyed {
+    pub(crate) key: u32,
     pub(crate) slot: u32,
+}
+
+/// The key of a slot that is to be announced, by the hash that it says: the hash, or where slots are chained
+/// by their very attributes the number of the set of those in its row.
+fn key_at(exact: bool, ins: &AdjIns, rows: &Rows, number: u32, hash: u32) -> Option<u32>
+    ensures { IfSome result (λ key. key ≡ key_by exact (set_of ins.now) (or_none (shown (row_at rows.now.rows.items number))) hash) }
+{
+    if !exact {
+        return Some(hash);
+    }
+    let row = rows.get(number)?;
+    match ins.set_by(number, &row.attrs) {
+        Ok(Some(set)) => Some(set),
+        Ok(None) => Some(NO_SET),
+        Err(_) => None,
+    }
 }
 
 /// Adds where a slot leads to, if there is room for it.
@@ -45,16 +67,23 @@ fn put_chain(chains: &mut Vec<u32>, chain: u32)
     }
 }
 
-/// Lists a slot, if it is to be announced. Answers whether there was room for it.
-fn list_hashed(slots: &[Wait], slot: usize, order: &mut Vec<Hashed>) -> bool
+/// Lists a slot, if it is to be announced. Answers whether there was room for it, and a key.
+fn list_keyed(
+    exact: bool,
+    ins: &AdjIns,
+    rows: &Rows,
+    slots: &[Wait],
+    slot: usize,
+    order: &mut Vec<Keyed>,
+) -> bool
     requires { slot < length slots.now }
-    ensures { IsTrue result → AreHashed slots.now slot order.old.items → AreHashed slots.now (suc slot) order.new.items }
+    ensures { IsTrue result → AreKeyed exact (set_of ins.now) rows.now.rows.items slots.now slot order.old.items → AreKeyed exact (set_of ins.now) rows.now.rows.items slots.now (suc slot) order.new.items }
 {
     let wait = &slots[slot];
     if !wait.open {
         return true;
     }
-    let Due::Announced { hash, .. } = wait.due else {
+    let Due::Announced { number, hash } = wait.due else {
         return true;
     };
     if order.capacity() <= order.len() {
@@ -63,17 +92,20 @@ fn list_hashed(slots: &[Wait], slot: usize, order: &mut Vec<Hashed>) -> bool
     let Ok(slot) = u32::try_from(slot) else {
         return false;
     };
-    order.push_reserved(Hashed { hash, slot });
+    let Some(key) = key_at(exact, ins, rows, number, hash) else {
+        return false;
+    };
+    order.push_reserved(Keyed { key, slot });
     true
 }
 
-/// Lists the slots that are to be announced. Answers whether there was room for all.
-fn list_all(slots: &[Wait], order: &mut Vec<Hashed>) -> bool
-    ensures { IsTrue result → AreHashed slots.now (length slots.now) order.new.items }
+/// Lists the slots that are to be announced. Answers whether there was room for all, and a key for each.
+fn list_all(exact: bool, ins: &AdjIns, rows: &Rows, slots: &[Wait], order: &mut Vec<Keyed>) -> bool
+    ensures { IsTrue result → AreKeyed exact (set_of ins.now) rows.now.rows.items slots.now (length slots.now) order.new.items }
 {
     order.clear();
     for slot in 0..slots.len() {
-        if !list_hashed(slots, slot, order) {
+        if !list_keyed(exact, ins, rows, slots, slot, order) {
             return false;
         }
     }
@@ -81,7 +113,7 @@ fn list_all(slots: &[Wait], order: &mut Vec<Hashed>) -> bool
 }
 
 /// The attributes that are due at a slot.
-fn due_at<'a>(rows: &'a Rows, slots: &[Wait], entry: &Hashed) -> Option<&'a Arc<Attrs>>
+fn due_at<'a>(rows: &'a Rows, slots: &[Wait], entry: &Keyed) -> Option<&'a Arc<Attrs>>
     ensures { IfSome result (λ attrs. arc_value attrs.now ≡ due_there rows.now.rows.items slots.now entry.now) }
 {
     let wait = slots.get(entry.slot as usize)?;
@@ -95,7 +127,7 @@ fn due_at<'a>(rows: &'a Rows, slots: &[Wait], entry: &Hashed) -> Option<&'a Arc<
 }
 
 /// The order of what is due at two slots.
-fn compare_due(rows: &Rows, slots: &[Wait], a: &Hashed, b: &Hashed) -> Option<Ordering>
+fn compare_due(rows: &Rows, slots: &[Wait], a: &Keyed, b: &Keyed) -> Option<Ordering>
     ensures { IfSome result (λ order. order ≡ attributes_cmp (due_there rows.now.rows.items slots.now a.now) (due_there rows.now.rows.items slots.now b.now)) }
 {
     let first = due_at(rows, slots, a)?;
@@ -107,39 +139,40 @@ fn compare_due(rows: &Rows, slots: &[Wait], a: &Hashed, b: &Hashed) -> Option<Or
     Some(first.cmp(second))
 }
 
-/// The order of slots: by hash, by attributes, and by place where these are equal.
-fn compare(rows: &Rows, slots: &[Wait], a: &Hashed, b: &Hashed) -> Ordering {
-    match a.hash.cmp(&b.hash) {
-        Ordering::Equal => match compare_due(rows, slots, a, b) {
-            None | Some(Ordering::Equal) => a.slot.cmp(&b.slot),
-            Some(order) => order,
-        },
-        order => order,
-    }
-}
-
-/// The order of what tells slots of one hash apart: what is due at them, or nothing where the hash alone
-/// counts.
-fn compare_by(exact: bool, rows: &Rows, slots: &[Wait], a: &Hashed, b: &Hashed) -> Option<Ordering>
+/// The order of what tells slots of one key apart: what is due at them where they have no set, else nothing.
+#[tactic(auto, unfolding(crate::specs::Pending::Chains::due_by))]
+fn compare_by(exact: bool, rows: &Rows, slots: &[Wait], a: &Keyed, b: &Keyed) -> Option<Ordering>
+    requires { b.now.key ≡ a.now.key }
     ensures { IfSome result (λ order. order ≡ attributes_cmp (due_by exact rows.now.rows.items slots.now a.now) (due_by exact rows.now.rows.items slots.now b.now)) }
 {
-    if exact {
+    if exact && a.key == NO_SET {
         compare_due(rows, slots, a, b)
     } else {
         Some(Ordering::Equal)
     }
 }
 
+/// The order of slots: by key, by attributes where they have no set, and by place where these are equal.
+fn compare(rows: &Rows, slots: &[Wait], a: &Keyed, b: &Keyed) -> Ordering {
+    if a.key != b.key {
+        return a.key.cmp(&b.key);
+    }
+    match compare_by(true, rows, slots, a, b) {
+        None | Some(Ordering::Equal) => a.slot.cmp(&b.slot),
+        Some(order) => order,
+    }
+}
+
 /// Where a slot leads to if this is the next one in order: there, if nothing tells them apart. It is none
 /// where the next one does not come after it.
-fn leads_to(exact: bool, rows: &Rows, slots: &[Wait], entry: &Hashed, next: &Hashed) -> Option<u32>
+fn leads_to(exact: bool, rows: &Rows, slots: &[Wait], entry: &Keyed, next: &Keyed) -> Option<u32>
     ensures rises { IsSome result → IsBefore (due_by exact rows.now.rows.items slots.now) entry.now next.now }
-    ensures leads { IfSome result (λ chain. next.now.hash ≡ entry.now.hash → due_by exact rows.now.rows.items slots.now next.now ≡ due_by exact rows.now.rows.items slots.now entry.now → chain ≤ next.now.slot) }
+    ensures leads { IfSome result (λ chain. next.now.key ≡ entry.now.key → due_by exact rows.now.rows.items slots.now next.now ≡ due_by exact rows.now.rows.items slots.now entry.now → chain ≤ next.now.slot) }
 {
-    if entry.hash < next.hash {
+    if entry.key < next.key {
         return Some(END);
     }
-    if entry.hash != next.hash {
+    if entry.key != next.key {
         return None;
     }
     match compare_by(exact, rows, slots, entry, next)? {
@@ -157,10 +190,10 @@ fn leads_to(exact: bool, rows: &Rows, slots: &[Wait], entry: &Hashed, next: &Has
 
 /// Where the slot at a place of the order leads to. It is none where the next one does not come after
 /// it.
-fn chain_at(exact: bool, rows: &Rows, slots: &[Wait], order: &[Hashed], place: usize) -> Option<u32>
+fn chain_at(exact: bool, rows: &Rows, slots: &[Wait], order: &[Keyed], place: usize) -> Option<u32>
     requires { place < length order.now }
-    ensures rises { IsSome result → (e f : Hashed) → slice_get order.now place ≡ Some e → slice_get order.now (suc place) ≡ Some f → IsBefore (due_by exact rows.now.rows.items slots.now) e f }
-    ensures leads { IfSome result (λ chain. (e f : Hashed) → slice_get order.now place ≡ Some e → slice_get order.now (suc place) ≡ Some f → f.hash ≡ e.hash → due_by exact rows.now.rows.items slots.now f ≡ due_by exact rows.now.rows.items slots.now e → chain ≤ f.slot) }
+    ensures rises { IsSome result → (e f : Keyed) → slice_get order.now place ≡ Some e → slice_get order.now (suc place) ≡ Some f → IsBefore (due_by exact rows.now.rows.items slots.now) e f }
+    ensures leads { IfSome result (λ chain. (e f : Keyed) → slice_get order.now place ≡ Some e → slice_get order.now (suc place) ≡ Some f → f.key ≡ e.key → due_by exact rows.now.rows.items slots.now f ≡ due_by exact rows.now.rows.items slots.now e → chain ≤ f.slot) }
 {
     if order.len() - place <= 1 {
         return Some(END);
@@ -173,7 +206,7 @@ fn chain_one(
     exact: bool,
     rows: &Rows,
     slots: &[Wait],
-    order: &[Hashed],
+    order: &[Keyed],
     place: usize,
     chains: &mut Vec<u32>,
 ) -> bool
@@ -195,7 +228,7 @@ fn chain_all(
     exact: bool,
     rows: &Rows,
     slots: &[Wait],
-    order: &[Hashed],
+    order: &[Keyed],
     chains: &mut Vec<u32>,
 ) -> bool
     ensures rise { IsTrue result → AreInOrder (due_by exact rows.now.rows.items slots.now) order.now (length order.now) }
@@ -213,33 +246,34 @@ fn chain_all(
     true
 }
 
-/// Puts slots in order: by hash, by attributes if these count, and by place.
-fn put_hashed_in_order(exact: bool, rows: &Rows, slots: &[Wait], order: &mut Vec<Hashed>)
+/// Puts slots in order: by key, by attributes if these count, and by place.
+fn put_keyed_in_order(exact: bool, rows: &Rows, slots: &[Wait], order: &mut Vec<Keyed>)
     ensures { IsPermutation order.old.items order.new.items }
 {
     if exact {
         order.sort_unstable_by(|a, b| compare(rows, slots, a, b));
     } else {
-        order.sort_unstable_by_key(|entry| (entry.hash, entry.slot));
+        order.sort_unstable_by_key(|entry| (entry.key, entry.slot));
     }
 }
 
 /// Puts the slots that are to be announced in order and chains them; without room for it none is chained.
 fn chain_in_order(
     exact: bool,
+    ins: &AdjIns,
     rows: &Rows,
     slots: &[Wait],
-    order: &mut Vec<Hashed>,
+    order: &mut Vec<Keyed>,
     chains: &mut Vec<u32>,
 )
     ensures chained { AreChained rows.now.rows.items slots.now chains.new.items }
     ensures by_hash { exact ≡ false → AreByHash slots.now chains.new.items }
 {
-    if !list_all(slots, order) {
+    if !list_all(exact, ins, rows, slots, order) {
         chains.clear();
         return;
     }
-    put_hashed_in_order(exact, rows, slots, order);
+    put_keyed_in_order(exact, rows, slots, order);
     if !chain_all(exact, rows, slots, order, chains) {
         chains.clear();
     }
@@ -253,7 +287,7 @@ const MANY_OF_ONE_HASH: usize = 64;
 
 impl Waits {
     /// Chains the slots of the first part that are to be announced. It takes no memory.
-    pub(crate) fn chain(&mut self, rows: &Rows)
+    pub(crate) fn chain(&mut self, rows: &Rows, ins: &AdjIns)
         ensures items { self.new.slots.items ≡ self.old.slots.items }
         ensures sorted { self.new.sorted ≡ self.old.sorted }
         ensures capacity { vec_capacity self.new.slots ≡ vec_capacity self.old.slots }
@@ -261,6 +295,7 @@ impl Waits {
     {
         chain_in_order(
             self.exact,
+            ins,
             rows,
             &self.slots[..self.sorted],
             &mut self.order,
@@ -269,7 +304,7 @@ impl Waits {
     }
 
     /// A message passed over so many slots of its hash that have other attributes. Where they are many, the
-    /// chains are dropped, and slots are chained by their attributes too from now on, until none waits.
+    /// chains are dropped, and slots are chained by their very attributes from now on, until none waits.
     pub(crate) fn note_passed(&mut self, passed: usize)
         ensures slots { self.new.slots.items ≡ self.old.slots.items }
         ensures sorted { self.new.sorted ≡ self.old.sorted }

@@ -12,6 +12,7 @@ ghost use Rattle.rs_outlet.specs.declared.rows.Row.{Row};
 use crate::table::Rows;
 use crate::waiting::parts::{drop_shut, put_slots, sort_from};
 use crate::waiting::{Wait, Waits};
+use rs_adjin::AdjIns;
 use std::alloc::Global;
 
 /// Both parts become one where the late one's length squared is over so many times the first one's. So a
@@ -179,7 +180,7 @@ impl Waits {
     /// Makes the slots ready for a message: for the first one they are one part, and for a later one the first part
     /// is chained, once nothing is to be withdrawn. It stays so while others are added to the late part. It takes no
     /// memory.
-    pub(crate) fn prepare(&mut self, rows: &Rows)
+    pub(crate) fn prepare(&mut self, rows: &Rows, ins: &AdjIns)
         requires backed { AreBacked rows.now.rows.items self.old.slots.items }
         requires chained { AreChained rows.now.rows.items (take self.old.sorted self.old.slots.items) self.old.chains.items }
         ensures chained { AreChained rows.now.rows.items (take self.new.sorted self.new.slots.items) self.new.chains.items }
@@ -192,7 +193,7 @@ impl Waits {
             self.chains.clear();
             self.ready = true;
         } else if self.chains.is_empty() && self.first_withdrawn().is_none() {
-            self.chain(rows);
+            self.chain(rows, ins);
         }
     }
 }

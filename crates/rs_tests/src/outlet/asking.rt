@@ -18,15 +18,15 @@ fn change(rt: &impl Abort, exchange: &mut Exchange, outlet: &mut Outlet, first: 
 }
 
 /// Takes the octets of one message.
-fn take(outlet: &mut Outlet) {
-    outlet.fill();
+fn take(exchange: &Exchange, outlet: &mut Outlet) {
+    outlet.fill(&exchange.tables);
     outlet.took(outlet.lent().len());
 }
 
 /// Takes all that waits, and no more than 1,000 messages.
-fn take_all(outlet: &mut Outlet) {
+fn take_all(exchange: &Exchange, outlet: &mut Outlet) {
     for _ in 0..1_000u32 {
-        take(outlet);
+        take(exchange, outlet);
     }
 }
 
@@ -34,7 +34,7 @@ fn take_all(outlet: &mut Outlet) {
 fn told(rt: &impl Abort, exchange: &Exchange, count: usize) -> Outlet {
     let mut outlet = exchange.outlet(rt, CLIENT);
     exchange.decides(rt, &mut outlet, all(count));
-    drain(rt, exchange.alloc, &mut outlet);
+    drain(rt, exchange, &mut outlet);
     outlet
 }
 
@@ -45,9 +45,9 @@ fn a_message_behind_two_turns(rt: HostRuntime) {
     change(&rt, &mut exchange, &mut outlet, 0, 30);
     change(&rt, &mut exchange, &mut outlet, 30, 30);
     from_here(&rt);
-    outlet.begin();
+    outlet.begin(&exchange.tables);
     to_here(&rt);
-    take(&mut outlet);
+    take(&exchange, &mut outlet);
     is_drained(&rt, &outlet);
     let_go(exchange, outlet);
 }
@@ -60,7 +60,7 @@ fn messages_of_a_client_that_takes_one_behind_each_turn(rt: HostRuntime) {
     for turn in 0..4u32 {
         change(&rt, &mut exchange, &mut outlet, turn * 1_500, 1_500);
         from_here(&rt);
-        take(&mut outlet);
+        take(&exchange, &mut outlet);
         to_here(&rt);
     }
     let_go(exchange, outlet);
@@ -74,7 +74,7 @@ fn a_message_of_a_client_that_took_none(rt: HostRuntime) {
         change(&rt, &mut exchange, &mut outlet, turn * 1_000, 1_000);
     }
     from_here(&rt);
-    take_all(&mut outlet);
+    take_all(&exchange, &mut outlet);
     to_here(&rt);
     is_drained(&rt, &outlet);
     let_go(exchange, outlet);
@@ -86,13 +86,13 @@ fn all_again(rt: HostRuntime) {
     let mut outlet = told(&rt, &exchange, 3_000);
     from_here(&rt);
     outlet.again();
-    take(&mut outlet);
+    take(&exchange, &mut outlet);
     outlet.again();
     to_here(&rt);
     change(&rt, &mut exchange, &mut outlet, 500, 500);
     from_here(&rt);
     outlet.again();
-    take_all(&mut outlet);
+    take_all(&exchange, &mut outlet);
     to_here(&rt);
     is_drained(&rt, &outlet);
     let_go(exchange, outlet);
@@ -104,12 +104,12 @@ fn touches_and_the_end_of_a_session(rt: HostRuntime) {
     let mut outlet = told(&rt, &exchange, 3_000);
     from_here(&rt);
     outlet.say_keepalive();
-    take(&mut outlet);
+    take(&exchange, &mut outlet);
     exchange.touch(&rt, &mut outlet, 0, 3_000);
     exchange.touch(&rt, &mut outlet, 0, 3_000);
     outlet.touch_all();
     outlet.finish(Some(Short::Keepalive));
-    take(&mut outlet);
+    take(&exchange, &mut outlet);
     outlet.clear();
     to_here(&rt);
     let_go(exchange, outlet);

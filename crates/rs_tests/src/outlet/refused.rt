@@ -25,9 +25,9 @@ fn withdraw(rt: &impl Abort, exchange: &mut Exchange, first: u32) {
 fn half_told(rt: &impl Abort, before: &Exchange, now: &Exchange) -> Outlet {
     let mut outlet = before.outlet(rt, CLIENT);
     before.decides(rt, &mut outlet, all(600));
-    outlet.begin();
+    outlet.begin(&before.tables);
     outlet.took(outlet.lent().len());
-    outlet.begin();
+    outlet.begin(&before.tables);
     now.touch(rt, &mut outlet, BEFORE - 200, 500);
     outlet
 }
@@ -62,8 +62,8 @@ fn are_alike(rt: &impl Abort, exchange: &Exchange, one: &mut Outlet, other: &mut
     let of_one = listed(rt, exchange, one);
     let of_other = listed(rt, exchange, other);
     equals(rt, of_one, of_other);
-    let told_one = drain(rt, exchange.alloc, one);
-    let told_other = drain(rt, exchange.alloc, other);
+    let told_one = drain(rt, exchange, one);
+    let told_other = drain(rt, exchange, other);
     equals(rt, told_one, told_other);
 }
 

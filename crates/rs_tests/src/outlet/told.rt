@@ -70,7 +70,7 @@ impl Exchange {
         let mut outlet = Outlet::new(self.alloc, client, true).expect(rt, "an outlet");
         outlet.up(mode, limit);
         self.turn(rt, &mut outlet).expect(rt, "a turn");
-        drain(rt, self.alloc, &mut outlet)
+        drain(rt, self, &mut outlet)
     }
 
     /// A client is sent so many octets in its first turn.
@@ -190,7 +190,7 @@ fn a_rule_strips_large_communities(rt: HostRuntime) {
 
 /// What waits are just these octets.
 fn drains(rt: &impl Abort, exchange: &Exchange, outlet: &mut Outlet, want: &[u8]) {
-    let octets = drain(rt, exchange.alloc, outlet);
+    let octets = drain(rt, exchange, outlet);
     equals(rt, octets.as_slice(), want);
 }
 
@@ -246,7 +246,7 @@ fn turns_go_on_while_100_000_wait(rt: HostRuntime) {
     change(&rt, &mut exchange, &mut outlet, 1_000);
     // Each prefix is told once, as it is due at last: 49,000 of each of the first two sets in 49
     // messages, and the 2,000 that changed in two.
-    let told = drain(&rt, exchange.alloc, &mut outlet);
+    let told = drain(&rt, &exchange, &mut outlet);
     equals(&rt, told.len(), 400_000 + (49 + 49 + 2) * 43);
     is_drained(&rt, &outlet);
     let_go(exchange, outlet);
