@@ -15,7 +15,7 @@ use Rattle.rs_adjin.specs.Held.{one_if}
 use Rattle.rs_adjin.specs.Numbering.{routes_in, routes_by}
 use Rattle.rs_adjin.specs.Numbers.{number_in, routes_at}
 use Rattle.rs_adjin.specs.Sets.{count_of, uses_of, uses_in}
-use Rattle.rs_adjin.specs.AdjIns.{sets_at, IsUnused, CountsSets}
+use Rattle.rs_adjin.specs.AdjIns.{sets_at, IsUnused, IsUsed, CountsSets}
 use Rattle.rs_adjin.proofs.Holding.{at_number, number_cases}
 
 -- ---- a set that routes have
@@ -163,5 +163,12 @@ sets_counted ins = record {
   long = size 0 ins.table.sets.uses.items ∙ ins.table.sets.counted;
 }
 
-pub unused_by_none : (ins : AdjIns) (s : ℕ) → count_of ins.table.sets s ≡ 0 → IsUnused ins s
-unused_by_none ins s none p there = omega (arith, none, set_used ins s p (has (sets_at ins p) s there))
+pub count_unused : (ins : AdjIns) (s : ℕ) → IsUnused ins s → count_of ins.table.sets s ≡ 0
+count_unused ins s unused = go (count_of ins.table.sets s) refl
+  where
+    go : (k : ℕ) → count_of ins.table.sets s ≡ k → k ≡ 0
+    go zero is = refl
+    go (suc k) is = absurd (let found = used_set ins s (omega (arith, is)) in unused found.0 (contains _ s found.1))
+
+pub count_used : (ins : AdjIns) (s : ℕ) → IsUsed ins s → 0 < count_of ins.table.sets s
+count_used ins s used = set_used ins s used.0 (has (sets_at ins used.0) s used.1)

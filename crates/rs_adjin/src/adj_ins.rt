@@ -1,7 +1,7 @@
 //! The Adj-RIBs-In of all clients.
-#![tactic(auto, unfolding(crate::specs::AdjIns::client_count, crate::specs::AdjIns::identifier_of, crate::specs::AdjIns::held_of, crate::specs::AdjIns::number_of, crate::specs::AdjIns::prefix_of))]
+#![tactic(auto, unfolding(crate::specs::AdjIns::client_count, crate::specs::AdjIns::identifier_of, crate::specs::AdjIns::held_of, crate::specs::AdjIns::number_of, crate::specs::AdjIns::prefix_of, crate::specs::AdjIns::set_of))]
 
-ghost use Rattle.std.specs.Prelude.{T, if◌then◌else◌, ◌≡◌, true, false, IsTrue, ◌<◌, ℕ, Some, None, ◌↔◌, length, slice_get, is_some, IsSome, option_map, map, List, ◌≤◌, IfOk, IfSome, OnOk, OnErr, All, Contains};
+ghost use Rattle.std.specs.Prelude.{T, if◌then◌else◌, ◌≡◌, ◌≢◌, true, false, IsTrue, ◌<◌, ℕ, Some, None, ◌↔◌, length, slice_get, is_some, IsSome, option_map, map, List, ◌≤◌, IfOk, IfSome, OnOk, OnErr, All, Contains};
 ghost use Rattle.std.specs.List.{AllPairs, IsDistinct};
 ghost use Rattle.std.specs.List.Sorted.{IsStrictlySortedBy};
 ghost use Rattle.std.specs.Map.{keys_of};
@@ -27,6 +27,7 @@ use crate::noting::note_all_in;
 use crate::numbers::Numbered;
 use crate::prefixes::{HeldByNumber, HeldPrefixes, NumberedPrefixes};
 use crate::routes::{Route, route_in};
+use crate::sets::Shared;
 use crate::table::{clear_in, count_in, put_in, put_row, withdraw_in, withdraw_row};
 use rs_attrs::Attrs;
 use rs_octets::Prefix;
@@ -48,7 +49,7 @@ pub struct AdjIns {
 }
 
 impl AdjIns {
-    ghost use Rattle.rs_adjin.specs.AdjIns.{client_count, identifier_of, held_of, is_held, note_of, AreNoted, KeepsNotes, PutsNote, PutsNoteAt, Sets, Clears, Begins, Same, ListsHolders, SetsAt, TellsChangeAt, would_hold, candidates_of, number_of, prefix_of, KeepsNumbers, SameNumbers, SameNumbersBut, GivesUp, IsUnused, CountsSets};
+    ghost use Rattle.rs_adjin.specs.AdjIns.{client_count, identifier_of, held_of, is_held, note_of, AreNoted, KeepsNotes, PutsNote, PutsNoteAt, Sets, Clears, Begins, Same, ListsHolders, SetsAt, TellsChangeAt, would_hold, candidates_of, number_of, prefix_of, KeepsNumbers, SameNumbers, SameNumbersBut, GivesUp, IsUnused, IsUsed, CountsSets, set_of, KeepsSets, SameSets, SameSetsBut, GivesUpSet};
 
     /// Empty tables for so many clients.
     pub fn new(alloc: Global, clients: usize) -> Result<AdjIns, AllocError>
@@ -96,8 +97,8 @@ impl AdjIns {
         self.identifiers[client] = identifier;
     }
 
-    /// The client announces a route, beside which its note is kept and the set that its attributes are of
-    /// (`unused_set`), and the answer says whether that changes what it has.
+    /// The client announces a route, beside which its note is kept and the set of its attributes (`share`),
+    /// and the answer says whether that changes what it has.
     ///
     /// # Errors
     ///
@@ -332,19 +333,57 @@ impl AdjIns {
         self.table.used()
     }
 
-    /// A number of a set of attributes that no route has: for the routes of one UPDATE, which share their
-    /// attributes. No other route gets it until one is put with it.
+    /// The set of these attributes, which gets a number if it has none. A set that no route has is to be
+    /// given up (`forget`) once the UPDATE's routes are put.
     ///
     /// # Errors
     ///
-    /// `AllocError` where no number of 32 bits is left.
-    pub fn unused_set(&self) -> Result<u32, AllocError>
-        ensures { IfOk result (IsUnused self.now) }
+    /// `AllocError` where memory was refused, or where no number of 32 bits is left: then no set has another
+    /// number.
+    pub fn share(&mut self, attrs: &Arc<Attrs>) -> Result<Shared, AllocError>
+        ensures set { IfOk result (λ shared. set_of self.new (arc_value attrs.now) ≡ Some shared.set) }
+        ensures attrs { IfOk result (λ shared. arc_value shared.attrs ≡ arc_value attrs.now) }
+        ensures kept { KeepsSets self.old self.new }
+        ensures others { SameSetsBut (arc_value attrs.now) self.old self.new }
+        ensures err { OnErr result (SameSets self.old self.new) }
+        ensures same { Same self.old self.new }
+        ensures numbers { SameNumbers self.old self.new }
+        ensures noted { KeepsNotes self.old self.new }
     {
-        self.table.sets.unused()
+        self.table.sets.share(attrs)
     }
 
-    /// How many sets of attributes routes have, by the numbers that they were put with.
+    /// Gives up the number of a set, if no route has it.
+    pub fn forget(&mut self, set: u32)
+        ensures gone { IsUnused self.old set → (m : List Attribute) → set_of self.new m ≢ Some set }
+        ensures used { IsUsed self.old set → SameSets self.old self.new }
+        ensures others { GivesUpSet self.old self.new set }
+        ensures same { Same self.old self.new }
+        ensures numbers { SameNumbers self.old self.new }
+        ensures noted { KeepsNotes self.old self.new }
+    {
+        self.table.sets.forget(set);
+    }
+
+    /// The number of the set of these attributes. Where a route for the prefix of `number` has them it is
+    /// found there, with no search.
+    ///
+    /// # Errors
+    ///
+    /// `AllocError` where there are to be searched for, and no more can share them.
+    pub fn set_by(&self, number: u32, attrs: &Arc<Attrs>) -> Result<Option<u32>, AllocError>
+        ensures { IfOk result (λ set. set ≡ set_of self.now (arc_value attrs.now)) }
+    {
+        for route in self.table.routes(number) {
+            if self.table.sets.is_of(route.set, attrs) {
+                return Ok(Some(route.set));
+            }
+        }
+        self.table.sets.number(attrs)
+    }
+
+    /// How many sets of attributes routes have, by the numbers that they were put with: equal attributes are
+    /// one.
     pub fn set_count(&self) -> usize
         ensures { CountsSets self.now result }
     {

@@ -1,34 +1,68 @@
-//! The sets of attributes that routes share: of each, by its number, how many routes have it.
+//! The sets of attributes that routes share: of each its number, its attributes, and how many routes have
+//! it.
 //!
-//! The caller gives the routes of one UPDATE one number that no route had, so that a set is that of an
-//! UPDATE. Equal sets of two UPDATEs are two.
+//! Equal attributes are one set, whoever sent them: they are found by order, first by their hash. A set
+//! gets its number before its first route, and gives it up with its last one.
 #![tactic(auto, unfolding(crate::specs::Sets::count_of))]
 
-ghost use Rattle.std.specs.Prelude.{◌≡◌, ◌<◌, ◌+◌, ◌==◌, not, ℕ, length, count_by, IfOk, OnOk};
+ghost use Rattle.std.specs.Prelude.{◌≡◌, ◌<◌, ◌+◌, ◌==◌, true, not, ℕ, List, Some, None, length, count_by, option_map, IfOk, OnOk, OnErr};
+ghost use Rattle.std.specs.Arc.{arc_value};
+ghost use Rattle.rs_attrs.specs.Meaning.{Attribute};
+ghost use Rattle.rs_attrs.specs.Comparing.{attributes_hash};
 ghost use Rattle.rs_adjin.specs.Held.{one_if};
+ghost use Rattle.rs_adjin.specs.SetNumbering.{IsInverse, number_by};
 
 use crate::room::make_room;
+use rs_attrs::Attrs;
 use std::alloc::{AllocError, Global};
+use std::collections::BTreeMap;
+use std::sync::Arc;
 
-/// How many routes have each set, by its number.
+/// A set of attributes: its number, and the copy of them that is kept.
+#[derive(Drop)]
+pub struct Shared {
+    pub set: u32,
+    pub attrs: Arc<Attrs>,
+}
+
+/// The attributes of a number; none where no set has it.
+#[derive(Drop)]
+pub(crate) struct AttrsRow {
+    pub(crate) attrs: Option<Arc<Attrs>>,
+}
+
+/// Sets of attributes by number, and how many routes have each.
 #[derive(Drop)]
 pub(crate) struct Sets {
+    numbers: BTreeMap<(u32, Arc<Attrs>), u32>,
+    rows: Vec<AttrsRow>,
     uses: Vec<u32>,
-    /// Numbers that no route has.
+    /// Numbers that no set has.
     free: Vec<u32>,
     /// How many numbers have routes.
     held: usize,
+    ghost inverse: { IsInverse (number_by numbers) rows.items },
     ghost counted: { count_by (λ n. not (n == 0)) uses.items ≡ held },
 }
 
+/// By what attributes are found: their hash, and they themselves.
+fn key_of(attrs: &Arc<Attrs>) -> Result<(u32, Arc<Attrs>), AllocError>
+    ensures hash { IfOk result (λ key. key.0 ≡ attributes_hash (arc_value attrs.now)) }
+    ensures attrs { IfOk result (λ key. arc_value key.1 ≡ arc_value attrs.now) }
+{
+    Ok((attrs.kept_hash(), attrs.clone()?))
+}
+
 impl Sets {
-    ghost use Rattle.rs_adjin.specs.Sets.{count_of, HasRoom};
+    ghost use Rattle.rs_adjin.specs.Sets.{count_of, set_in, attrs_of, HasRoom, SameCounts, KeepsSets, SameSets, SameSetsBut, GivesUpSet};
 
     /// No route has any set.
     pub(crate) fn new(alloc: Global) -> Sets
         ensures { (s : ℕ) → count_of result s ≡ 0 }
     {
         Sets {
+            numbers: BTreeMap::new(alloc),
+            rows: Vec::new(alloc),
             uses: Vec::new(alloc),
             free: Vec::new(alloc),
             held: 0,
@@ -42,36 +76,144 @@ impl Sets {
         self.held
     }
 
-    /// A number that no route has. It stays so until a route is given it.
-    pub(crate) fn unused(&self) -> Result<u32, AllocError>
-        ensures { IfOk result (λ s. count_of self.now s ≡ 0) }
+    /// The number of these attributes. It is an `Err` only where no more can share them.
+    pub(crate) fn number(&self, attrs: &Arc<Attrs>) -> Result<Option<u32>, AllocError>
+        ensures { IfOk result (λ set. set ≡ set_in self.now (arc_value attrs.now)) }
     {
-        if let Some(number) = self.free.last()
-            && self.uses.get(*number as usize) == Some(&0)
-        {
-            return Ok(*number);
-        }
-        match u32::try_from(self.uses.len()) {
-            Ok(number) => Ok(number),
-            Err(_) => Err(AllocError),
+        let key = key_of(attrs)?;
+        Ok(self.numbers.get(&key).copied())
+    }
+
+    /// The attributes of a number.
+    fn attrs(&self, set: u32) -> Option<&Arc<Attrs>>
+        ensures { option_map (λ attrs. arc_value attrs.now) result ≡ attrs_of self.now set }
+    {
+        self.rows.get(set as usize)?.attrs.as_ref()
+    }
+
+    /// Whether these attributes are those of a number.
+    pub(crate) fn is_of(&self, set: u32, attrs: &Arc<Attrs>) -> bool
+        ensures { result ≡ true → set_in self.now (arc_value attrs.now) ≡ Some set }
+    {
+        match self.attrs(set) {
+            Some(kept) => kept == attrs,
+            None => false,
         }
     }
 
-    /// There is a count for a set, and room for giving its number back. A new number is free until a route
-    /// has it: that of an UPDATE that changes nothing serves again.
+    /// The copy of these attributes that is kept.
+    fn copy_of(&self, set: u32, attrs: &Arc<Attrs>) -> Result<Arc<Attrs>, AllocError>
+        requires { set_in self.now (arc_value attrs.now) ≡ Some set }
+        ensures { IfOk result (λ copy. arc_value copy ≡ arc_value attrs.now) }
+    {
+        match self.attrs(set) {
+            Some(kept) => kept.clone(),
+            None => attrs.clone(),
+        }
+    }
+
+    /// A number that no attributes have, with room for giving it back.
+    fn unused(&mut self) -> Result<u32, AllocError>
+        ensures sets { SameSets self.old self.new }
+        ensures counts { SameCounts self.old self.new }
+        ensures unused { IfOk result (λ n. attrs_of self.new n ≡ None) }
+        ensures within { IfOk result (λ n. n < length self.new.rows.items) }
+    {
+        if let Some(number) = self.free.pop()
+            && let Some(row) = self.rows.get(number as usize)
+            && row.attrs.is_none()
+        {
+            return Ok(number);
+        }
+        let Ok(number) = u32::try_from(self.rows.len()) else {
+            return Err(AllocError);
+        };
+        let wanted = number as usize + 1;
+        make_room(&mut self.free, wanted)?;
+        make_room(&mut self.rows, wanted)?;
+        self.rows.push(AttrsRow { attrs: None })?;
+        Ok(number)
+    }
+
+    /// Gives attributes that have no number one, and keeps them.
+    fn add_new(&mut self, attrs: &Arc<Attrs>) -> Result<u32, AllocError>
+        requires { set_in self.old (arc_value attrs.now) ≡ None }
+        ensures number { IfOk result (λ n. set_in self.new (arc_value attrs.now) ≡ Some n) }
+        ensures kept { KeepsSets self.old self.new }
+        ensures others { SameSetsBut (arc_value attrs.now) self.old self.new }
+        ensures err { OnErr result (SameSets self.old self.new) }
+        ensures counts { SameCounts self.old self.new }
+    {
+        let key = key_of(attrs)?;
+        let kept = attrs.clone()?;
+        let number = self.unused()?;
+        let Ok(_) = self.numbers.insert(key, number) else {
+            let _ = self.free.push(number);
+            return Err(AllocError);
+        };
+        self.rows[number as usize].attrs = Some(kept);
+        Ok(number)
+    }
+
+    /// The set of these attributes, which gets a number if it has none.
+    pub(crate) fn share(&mut self, attrs: &Arc<Attrs>) -> Result<Shared, AllocError>
+        ensures set { IfOk result (λ shared. set_in self.new (arc_value attrs.now) ≡ Some shared.set) }
+        ensures attrs { IfOk result (λ shared. arc_value shared.attrs ≡ arc_value attrs.now) }
+        ensures kept { KeepsSets self.old self.new }
+        ensures others { SameSetsBut (arc_value attrs.now) self.old self.new }
+        ensures err { OnErr result (SameSets self.old self.new) }
+        ensures counts { SameCounts self.old self.new }
+    {
+        if let Some(set) = self.number(attrs)? {
+            let attrs = self.copy_of(set, attrs)?;
+            return Ok(Shared { set, attrs });
+        }
+        let copy = attrs.clone()?;
+        let set = self.add_new(attrs)?;
+        Ok(Shared { set, attrs: copy })
+    }
+
+    /// No attributes have this number from now on.
+    fn give_up(&mut self, set: u32)
+        ensures gone { attrs_of self.new set ≡ None }
+        ensures others { GivesUpSet self.old self.new set }
+        ensures counts { SameCounts self.old self.new }
+    {
+        let place = set as usize;
+        if place >= self.rows.len() {
+            return;
+        }
+        let Some(attrs) = self.rows[place].attrs.take() else {
+            return;
+        };
+        self.numbers.remove(&(attrs.kept_hash(), attrs));
+        let _ = self.free.push(set);
+    }
+
+    /// Gives up the number of a set that no route has.
+    pub(crate) fn forget(&mut self, set: u32)
+        ensures gone { count_of self.old set ≡ 0 → attrs_of self.new set ≡ None }
+        ensures used { 0 < count_of self.old set → SameSets self.old self.new }
+        ensures others { GivesUpSet self.old self.new set }
+        ensures counts { SameCounts self.old self.new }
+    {
+        match self.uses.get(set as usize) {
+            Some(uses) if *uses > 0 => {}
+            _ => self.give_up(set),
+        }
+    }
+
+    /// There is a count for a set.
     fn grow(&mut self, set: u32) -> Result<(), AllocError>
-        ensures same { (s : ℕ) → count_of self.new s ≡ count_of self.old s }
+        ensures same { SameCounts self.old self.new }
         ensures there { OnOk result (set < length self.new.uses.items) }
     {
         let wanted = set as usize + 1;
         if wanted <= self.uses.len() {
             return Ok(());
         }
-        make_room(&mut self.free, wanted)?;
         make_room(&mut self.uses, wanted)?;
-        self.uses.resize(wanted, 0)?;
-        let _ = self.free.push(set);
-        Ok(())
+        self.uses.resize(wanted, 0)
     }
 
     /// Makes room for one route more with a set.
@@ -94,14 +236,11 @@ impl Sets {
         let uses = self.uses[set as usize];
         if uses == 0 {
             self.held += 1;
-            if self.free.last() == Some(&set) {
-                self.free.pop();
-            }
         }
         self.uses[set as usize] = uses + 1;
     }
 
-    /// One route less has a set.
+    /// One route less has a set. With the last one its number is given up.
     pub(crate) fn remove(&mut self, set: u32)
         requires { 0 < count_of self.old set }
         ensures { (s : ℕ) → count_of self.new s + one_if (set == s) ≡ count_of self.old s }
@@ -110,7 +249,7 @@ impl Sets {
         self.uses[set as usize] = uses;
         if uses == 0 {
             self.held -= 1;
-            let _ = self.free.push(set);
+            self.give_up(set);
         }
     }
 }

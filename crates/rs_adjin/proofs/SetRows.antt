@@ -1,0 +1,217 @@
+-- Rows of the table of sets: added, written and given up.
+use Rattle.std.proofs.Common.{Bool, true, false, cond, ◌≡◌, ◌≢◌, ◌<◌, ◌++◌, ℕ, zero, suc, List, [], ◌∷◌, length, refl, sym, ◌∙◌, ap, subst, ◌⊎◌, inl, inr}
+use Rattle.std.specs.Prelude.{Option, Some, None, slice_get, slice_set, slice_index_or, if◌then◌else◌}
+use Rattle.std.specs.BTreeMap.{BTreeMap, get, is_at}
+use Rattle.std.specs.Arc.{arc_value, arc_with_value}
+use Rattle.std.specs.declared.sync.Arc.{Arc}
+use Rattle.std.specs.Global.{Global}
+use Rattle.std.specs.Ordering.{nat_cmp, ordering_then, is_eq}
+use Rattle.std.specs.declared.cmp.Ordering.{Ordering}
+use Rattle.std.specs.declared.cmp.Ordering.TheVariants.{Less, Equal, Greater}
+use Rattle.std.proofs.lemmas.Option.{same_Some}
+use Rattle.std.proofs.lemmas.Bool.{cases_eq}
+use Rattle.std.specs.Cmp.{nat_cmp_total, tied_itself}
+use Rattle.rs_attrs.specs.Meaning.{Attribute}
+use Rattle.rs_attrs.specs.Comparing.{attributes_cmp, attributes_hash}
+use Rattle.rs_attrs.specs.ComparisonLaws.{attributes_cmp_decides}
+use Rattle.rs_adjin.specs.declared.sets.AttrsRow.{AttrsRow}
+use Rattle.rs_adjin.proofs.TableRows.{none_some, set_here, set_apart, shown}
+use Rattle.rs_adjin.specs.SetNumbering.{attrs_by, attrs_in, attrs_at, number_by, IsInverse}
+
+abbrev pub Attributes : Type 0
+Attributes = List Attribute
+
+abbrev pub Numbers : Type 0
+Numbers = Attributes → Option ℕ
+
+-- ---- attributes compared
+
+pub at_itself : (p : Attributes) → is_at (attributes_cmp p) p ≡ true
+at_itself p = (attributes_cmp_decides p p).1 refl
+
+pub at_same : (p q : Attributes) → is_at (attributes_cmp p) q ≡ true → q ≡ p
+at_same p q h = sym ((attributes_cmp_decides p q).0 h)
+
+pub attrs_is : (p q : Attributes) → (q ≡ p) ⊎ (is_at (attributes_cmp p) q ≡ false)
+attrs_is p q = go (is_at (attributes_cmp p) q) refl
+  where
+    go : (b : Bool) → is_at (attributes_cmp p) q ≡ b → (q ≡ p) ⊎ (is_at (attributes_cmp p) q ≡ false)
+    go true is = inl (at_same p q is)
+    go false is = inr is
+
+-- ---- numbers written at one set
+
+abbrev pub Writes : Numbers → Numbers → Attributes → Option ℕ → Type 0
+Writes old new p w = (q : Attributes) → new q ≡ cond (is_at (attributes_cmp p) q) w (old q)
+
+pub written : (old new : Numbers) (p : Attributes) (w : Option ℕ) → Writes old new p w → new p ≡ w
+written old new p w u = u p ∙ ap (λ b. cond b w (old p)) (at_itself p)
+
+pub unwritten : (old new : Numbers) (p : Attributes) (w : Option ℕ) → Writes old new p w → (q : Attributes) → is_at (attributes_cmp p) q ≡ false → new q ≡ old q
+unwritten old new p w u q other = u q ∙ ap (λ b. cond b w (old q)) other
+
+abbrev pub Key : Type 0
+Key = ℕ × Arc Attributes Global
+
+abbrev pub key_cmp : Key → Key → Ordering
+key_cmp x y = ordering_then (nat_cmp x.0 y.0) (attributes_cmp (arc_value x.1) (arc_value y.1))
+
+abbrev pub by_hash : Attributes → Attributes → Ordering
+by_hash p q = ordering_then (nat_cmp (attributes_hash p) (attributes_hash q)) (attributes_cmp p q)
+
+then_false : (r s : Ordering) → is_eq s ≡ false → is_eq (ordering_then r s) ≡ false
+then_false Less s other = refl
+then_false Equal s other = other
+then_false Greater s other = refl
+
+-- the hash first tells nobody apart whom the attributes don't
+at_hash : (p q : Attributes) → is_at (by_hash p) q ≡ is_at (attributes_cmp p) q
+at_hash p q = elim (attrs_is p q) [
+  | inl e ↦ subst (λ x. is_at (by_hash p) x ≡ is_at (attributes_cmp p) x) (sym e) (ap (λ o. is_eq (ordering_then o (attributes_cmp p p))) (tied_itself nat_cmp_total (attributes_hash p)))
+  | inr other ↦ then_false (nat_cmp (attributes_hash p) (attributes_hash q)) (attributes_cmp p q) other ∙ sym other
+]
+
+-- a map written at one key
+pub writes_by : (old new : BTreeMap Key ℕ) (k : Key) (w : Option ℕ) (p : Attributes) → k.0 ≡ attributes_hash p → arc_value k.1 ≡ p → ((q : Key) → get key_cmp new q ≡ cond (is_at (key_cmp k) q) w (get key_cmp old q)) → Writes (number_by old) (number_by new) p w
+writes_by old new k w p hashed is u q =
+    u (attributes_hash q, arc_with_value k.1 q)
+    ∙ ap (λ b. cond b w (number_by old q))
+    (ap (λ h. is_eq (ordering_then (nat_cmp h (attributes_hash q)) (attributes_cmp (arc_value k.1) q))) hashed ∙ ap (λ x. is_eq (ordering_then (nat_cmp (attributes_hash p) (attributes_hash q)) (attributes_cmp x q))) is ∙ at_hash p q)
+
+-- ---- a row without attributes added
+
+pub push_attrs : (rows : List AttrsRow) (r : AttrsRow) (m : ℕ) → r.attrs ≡ None → attrs_at (rows ++ r ∷ []) m ≡ attrs_at rows m
+push_attrs [] r zero none = ap attrs_by none
+push_attrs [] r (suc m) none = refl
+push_attrs (x ∷ rows) r zero none = refl
+push_attrs (x ∷ rows) r (suc m) none = push_attrs rows r m none
+
+-- pushed, or memory was refused
+pub push_any : (rows : List AttrsRow) (r : AttrsRow) (b : Bool) (new : List AttrsRow) → new ≡ (if b then rows ++ r ∷ [] else rows) → r.attrs ≡ None → (m : ℕ) → attrs_at new m ≡ attrs_at rows m
+push_any rows r true new is none m = ap (λ xs. attrs_at xs m) is ∙ push_attrs rows r m none
+push_any rows r false new is none m = ap (λ xs. attrs_at xs m) is
+
+pub push_here : (rows : List AttrsRow) (r : AttrsRow) → attrs_at (rows ++ r ∷ []) (length rows) ≡ attrs_by r.attrs
+push_here [] r = refl
+push_here (x ∷ rows) r = push_here rows r
+
+pub inverse_same : (number : Numbers) (old new : List AttrsRow) → ((m : ℕ) → attrs_at new m ≡ attrs_at old m) → IsInverse number old → IsInverse number new
+inverse_same number old new same i = record { there = λ p n is. same n ∙ i.there p n is; back = λ p n is. i.back p n (sym (same n) ∙ is) }
+
+-- ---- a number given
+
+-- p has one, and the rest is as before
+pub record IsAdded (old new : Numbers) (rows : List AttrsRow) (p : Attributes) : Type 0 where
+  pub kept : (q : Attributes) (m : ℕ) → old q ≡ Some m → new q ≡ Some m
+  pub others : (q : Attributes) → q ≢ p → new q ≡ old q
+  pub inverse : IsInverse new rows
+
+module _ (old new : Numbers) (rows : List AttrsRow) (n : ℕ) (p : Attributes) (r s : AttrsRow) (i : IsInverse old rows) (absent : old p ≡ None) (free : attrs_at rows n ≡ None) (u : Writes old new p (Some n)) (read : slice_get rows n ≡ Some r) (named : attrs_by s.attrs ≡ Some p) where
+  new_row : slice_get (slice_set rows n s) n ≡ Some s
+  new_row = set_here rows n s r read
+
+  other_attrs : (q : Attributes) (m : ℕ) → old q ≡ Some m → is_at (attributes_cmp p) q ≡ false
+  other_attrs q m is = elim (attrs_is p q) [
+    | inl e ↦ absurd (none_some (old p) m absent (subst (λ x. old x ≡ Some m) e is))
+    | inr ne ↦ ne
+  ]
+
+  other_number : (q : Attributes) (m : ℕ) → old q ≡ Some m → m ≢ n
+  other_number q m is e = none_some (attrs_at rows n) q free (subst (λ k. attrs_at rows k ≡ Some q) e (i.there q m is))
+
+  added_kept : (q : Attributes) (m : ℕ) → old q ≡ Some m → new q ≡ Some m
+  added_kept q m is = unwritten old new p (Some n) u q (other_attrs q m is) ∙ is
+
+  added_others : (q : Attributes) → q ≢ p → new q ≡ old q
+  added_others q ne = elim (attrs_is p q) [
+    | inl e ↦ absurd (ne e)
+    | inr other ↦ unwritten old new p (Some n) u q other
+  ]
+
+  added_inverse : IsInverse new (slice_set rows n s)
+  added_inverse = record {
+    there = λ q m is. elim (attrs_is p q) [
+      | inl e ↦
+          let m_is : m ≡ n = sym (same_Some n m (sym (written old new p (Some n) u) ∙ subst (λ x. new x ≡ Some m) e is)) in
+          ap (attrs_at (slice_set rows n s)) m_is ∙ (ap attrs_in new_row ∙ (named ∙ ap (λ x. Some x) (sym e)))
+      | inr ne ↦
+          let was : old q ≡ Some m = sym (unwritten old new p (Some n) u q ne) ∙ is in
+          ap attrs_in (set_apart rows n s m (other_number q m was)) ∙ i.there q m was
+    ];
+    back = λ q m is. elim (cases_eq m n) [
+      | inl e ↦
+          let q_is : p ≡ q = same_Some p q (sym (ap attrs_in new_row ∙ named) ∙ subst (λ k. attrs_at (slice_set rows n s) k ≡ Some q) e is) in
+          subst (λ x. new x ≡ Some m) q_is (written old new p (Some n) u ∙ ap (λ k. Some k) (sym e))
+      | inr ne ↦ added_kept q m (i.back q m (sym (ap attrs_in (set_apart rows n s m ne)) ∙ is))
+    ];
+  }
+
+  pub added : IsAdded old new (slice_set rows n s) p
+  added = record { kept = added_kept; others = added_others; inverse = added_inverse }
+
+-- ---- a number given up
+
+-- nothing has n, and the rest is as before
+pub record IsGone (old new : Numbers) (rows : List AttrsRow) (n : ℕ) : Type 0 where
+  pub here : attrs_at rows n ≡ None
+  pub kept : (q : Attributes) (m : ℕ) → m ≢ n → old q ≡ Some m → new q ≡ Some m
+  pub none_new : (q : Attributes) (m : ℕ) → new q ≡ Some m → old q ≡ Some m
+  pub inverse : IsInverse new rows
+
+module _ (old new : Numbers) (rows : List AttrsRow) (n : ℕ) (p : Attributes) (r s : AttrsRow) (i : IsInverse old rows) (u : Writes old new p None) (read : slice_get rows n ≡ Some r) (was : attrs_by r.attrs ≡ Some p) (none : s.attrs ≡ None) where
+  gone_row : slice_get (slice_set rows n s) n ≡ Some s
+  gone_row = set_here rows n s r read
+
+  number_was : old p ≡ Some n
+  number_was = i.back p n (ap attrs_in read ∙ was)
+
+  other_left : (q : Attributes) (m : ℕ) → m ≢ n → old q ≡ Some m → is_at (attributes_cmp p) q ≡ false
+  other_left q m ne is = elim (attrs_is p q) [
+    | inl e ↦ absurd (ne (same_Some m n (sym (subst (λ x. old x ≡ Some m) e is) ∙ number_was)))
+    | inr other ↦ other
+  ]
+
+  gone_here : attrs_at (slice_set rows n s) n ≡ None
+  gone_here = ap attrs_in gone_row ∙ ap attrs_by none
+
+  gone_kept : (q : Attributes) (m : ℕ) → m ≢ n → old q ≡ Some m → new q ≡ Some m
+  gone_kept q m ne is = unwritten old new p None u q (other_left q m ne is) ∙ is
+
+  gone_old : (q : Attributes) (m : ℕ) → new q ≡ Some m → (m ≢ n) × (old q ≡ Some m)
+  gone_old q m is = elim (attrs_is p q) [
+    | inl e ↦ absurd (none_some (new p) m (written old new p None u) (subst (λ x. new x ≡ Some m) e is))
+    | inr other ↦
+        let before : old q ≡ Some m = sym (unwritten old new p None u q other) ∙ is in (
+          λ e.
+              let same : q ≡ p = same_Some q p (sym (i.there q m before) ∙ (ap (attrs_at rows) e ∙ (ap attrs_in read ∙ was))) in
+              let t : is_at (attributes_cmp p) p ≡ false = subst (λ x. is_at (attributes_cmp p) x ≡ false) same other in
+              let f : true ≡ false = sym (at_itself p) ∙ t in (cc),
+          before,
+        )
+  ]
+
+  gone_inverse : IsInverse new (slice_set rows n s)
+  gone_inverse = record {
+    there = λ q m is. let o = gone_old q m is in ap attrs_in (set_apart rows n s m o.0) ∙ i.there q m o.1;
+    back = λ q m is. elim (cases_eq m n) [
+      | inl e ↦ absurd (none_some (attrs_at (slice_set rows n s) n) q gone_here (subst (λ k. attrs_at (slice_set rows n s) k ≡ Some q) e is))
+      | inr ne ↦ gone_kept q m ne (i.back q m (sym (ap attrs_in (set_apart rows n s m ne)) ∙ is))
+    ];
+  }
+
+  pub gone : IsGone old new (slice_set rows n s) n
+  gone = record { here = gone_here; kept = gone_kept; none_new = λ q m is. (gone_old q m is).1; inverse = gone_inverse }
+
+-- ---- as the table writes its tree and its rows
+
+module _ (old new : BTreeMap Key ℕ) (rows : List AttrsRow) (n : ℕ) (row : AttrsRow) (k : Key) (i : IsInverse (number_by old) rows) (below : n < length rows) (value : row ≡ slice_index_or rows n row) where
+  read : slice_get rows n ≡ Some row
+  read = shown rows rows n row refl below value
+
+  pub added_by : (p : Attributes) (kept : Arc Attributes Global) → number_by old p ≡ None → attrs_at rows n ≡ None → arc_value kept ≡ p → k.0 ≡ attributes_hash p → arc_value k.1 ≡ p → ((q : Key) → get key_cmp new q ≡ cond (is_at (key_cmp k) q) (Some n) (get key_cmp old q))
+      → IsAdded (number_by old) (number_by new) (slice_set rows n record { attrs = Some kept }) p
+  added_by p kept absent free named hashed is u = added (number_by old) (number_by new) rows n p row record { attrs = Some kept } i absent free (writes_by old new k (Some n) p hashed is u) read (ap Some named)
+
+  pub gone_by : (taken left : Option (Arc Attributes Global)) → taken ≡ row.attrs → taken ≡ Some k.1 → left ≡ None → k.0 ≡ attributes_hash (arc_value k.1) → ((q : Key) → get key_cmp new q ≡ cond (is_at (key_cmp k) q) None (get key_cmp old q))
+      → IsGone (number_by old) (number_by new) (slice_set rows n record { attrs = left }) n
+  gone_by taken left was is none hashed u = gone (number_by old) (number_by new) rows n (arc_value k.1) row record { attrs = left } i (writes_by old new k None (arc_value k.1) hashed refl u) read (ap attrs_by (sym was ∙ is)) none
