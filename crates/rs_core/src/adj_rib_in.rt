@@ -1,7 +1,7 @@
 //! What clients announce and withdraw, and what goes with their sessions: the Adj-RIBs-In, and the
 //! touches of all other clients' outlets.
 
-ghost use Rattle.std.specs.Prelude.{◌≡◌, ◌<◌, true, Some, None, [], ◌∷◌, OnOk, OnErr, if◌then◌else◌};
+ghost use Rattle.std.specs.Prelude.{◌≡◌, ◌<◌, true, Some, None, [], ◌∷◌, IfOk, OnOk, OnErr, if◌then◌else◌};
 ghost use Rattle.std.specs.Arc.{arc_value};
 ghost use Rattle.rs_adjin.specs.AdjIns as adj_ins;
 ghost use Rattle.rs_adjin.specs.Mandatory.{HasMandatory};
@@ -14,7 +14,7 @@ mod dropped;
 use crate::adj_rib_in::dropped::DROPPED;
 use crate::ribs::Ribs;
 pub(crate) use dropped::Dropped;
-use rs_adjin::AdjIns;
+use rs_adjin::{AdjIns, Shared};
 use rs_attrs::{Attrs, Mode};
 use rs_octets::Prefix;
 use rs_open::Limit;
@@ -42,8 +42,29 @@ impl Ribs {
 
     // ---- what a client announces
 
-    /// A client announces a route of an UPDATE, whose set of attributes has a number, and its import rules
-    /// judge it at once. Where that changes what it has, the others are touched. Where memory is refused, the number that the prefix may have got is given up at once, but not while an outlet
+    /// The set of an UPDATE's attributes, which gets a number if it has none.
+    pub(crate) fn share(&mut self, attrs: &Arc<Attrs>) -> Result<Shared, AllocError>
+        ensures settings { KeepsSettings self.old self.new }
+        ensures attrs { IfOk result (λ shared. arc_value shared.attrs ≡ arc_value attrs.now) }
+        ensures tables { adj_ins.Same self.old.tables self.new.tables }
+        ensures outlets { self.new.outlets ≡ self.old.outlets }
+        ensures kept { KeepsFresh self.old self.new }
+    {
+        self.tables.share(attrs)
+    }
+
+    /// Gives up the number of a set, if no route has it.
+    pub(crate) fn forget(&mut self, set: u32)
+        ensures settings { KeepsSettings self.old self.new }
+        ensures tables { adj_ins.Same self.old.tables self.new.tables }
+        ensures outlets { self.new.outlets ≡ self.old.outlets }
+        ensures kept { KeepsFresh self.old self.new }
+    {
+        self.tables.forget(set);
+    }
+
+    /// A client announces a route of an UPDATE, whose set of attributes has a number (`share`), and its
+    /// import rules judge it at once. Where that changes what it has, the others are touched. Where memory is refused, the number that the prefix may have got is given up at once, but not while an outlet
     /// has a row of it or prefixes that are touched by themselves: then the sweep gives it up.
     #[tactic(auto, using(crate::proofs::Run::Noting::noted_put))]
     pub(crate) fn announce(

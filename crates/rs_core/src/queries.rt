@@ -247,7 +247,7 @@ impl Core {
 impl Core {
     ghost use Rattle.rs_adjin.specs.AdjIns.{CountsSets};
 
-    /// How many sets of attributes the routes of the Adj-RIBs-In have: one of each UPDATE whose routes stand.
+    /// How many sets of attributes the routes of the Adj-RIBs-In have: equal attributes are one.
     pub fn attribute_sets(&self) -> usize
         ensures { CountsSets self.now.ribs.tables result }
     {

@@ -121,7 +121,7 @@ impl Core {
         }
     }
 
-    /// The routes of an UPDATE share its attributes: one set.
+    /// The routes of an UPDATE share its attributes: one set, which is given up where no route has it.
     fn announce_all(
         &mut self,
         c: usize,
@@ -134,7 +134,26 @@ impl Core {
         ensures held { OnOk result (HasOverlaid c prefixes.now (Some (arc_value attrs.now)) self.old.ribs.tables self.new.ribs.tables) }
         ensures part { HasOverlaidSome c prefixes.now (Some (arc_value attrs.now)) self.old.ribs.tables self.new.ribs.tables }
     {
-        let set = self.ribs.tables.unused_set()?;
+        let shared = self.ribs.share(attrs)?;
+        let announced = self.announce_each(c, prefixes, &shared.attrs, shared.set);
+        self.ribs.forget(shared.set);
+        announced
+    }
+
+    /// Announces prefixes with attributes whose set has this number.
+    fn announce_each(
+        &mut self,
+        c: usize,
+        prefixes: &[Prefix],
+        attrs: &Arc<Attrs>,
+        set: u32,
+    ) -> Result<(), AllocError>
+        requires client { c < client_count self.old }
+        requires mandatory { HasMandatory (arc_value attrs.now) }
+        ensures alone { ChangesRoutes c self.old self.new }
+        ensures held { OnOk result (HasOverlaid c prefixes.now (Some (arc_value attrs.now)) self.old.ribs.tables self.new.ribs.tables) }
+        ensures part { HasOverlaidSome c prefixes.now (Some (arc_value attrs.now)) self.old.ribs.tables self.new.ribs.tables }
+    {
         for prefix in prefixes {
             self.ribs.announce(c, *prefix, attrs, set)?;
         }

@@ -1,7 +1,8 @@
 -- What UPDATEs make of a client's Adj-RIB-In.
 use Rattle.std.proofs.Common.{◌≡◌, ◌≢◌, ◌⊎◌, inl, inr, ◌<◌, ◌==◌, ◌&&◌, ◌||◌, ℕ, zero, suc, Bool, true, false, List, [], ◌∷◌, ◌++◌, length, take, get_or, refl, sym, ◌∙◌, ap, subst, arith}
-use Rattle.std.specs.Prelude.{Option, Some, None, find, slice_get, slice_set, if◌then◌else◌}
+use Rattle.std.specs.Prelude.{Option, Some, None, find, slice_get, slice_index_or, slice_set, if◌then◌else◌}
 use Rattle.std.specs.List.{cons_option}
+use Rattle.std.specs.Global.{Vec}
 use Rattle.std.proofs.lemmas.Bool.Decides.{nat_tests}
 use Rattle.std.proofs.Math.Bool.{or-false, or_assoc}
 use Rattle.rs_octets.specs.Prefixes.{Prefix}
@@ -32,7 +33,7 @@ use Rattle.rs_core.specs.Session.Conversations.{outgoing_of, own_open, update_sp
 use Rattle.rs_core.specs.Told.Telling.{limit_to}
 use Rattle.rs_core.proofs.Session.Keepalives.{kept_keepalives}
 use Rattle.rs_core.proofs.Session.Conversing.{acted_converses, kept_speech}
-use Rattle.rs_core.proofs.Told.Alike.{same_again, same_is}
+use Rattle.rs_core.proofs.Told.Alike.{alone_is, same_again, same_is}
 use Rattle.rs_core.proofs.Told.BySession.{stayed}
 use Rattle.rs_core.specs.Session.OperatorRecords.{ending_by, no_faults, IsWatched}
 use Rattle.rs_core.proofs.Run.Lists.{set_at}
@@ -41,7 +42,7 @@ use Rattle.rs_core.specs.Told.Points.{Point, asked_if}
 use Rattle.rs_core.proofs.Run.Holding.{up_table, up_identifier, up_is}
 use Rattle.rs_core.proofs.Told.Ordering.{stayed_ordered}
 use Rattle.rs_core.proofs.Run.Around.{change_touches, none_touched, touches_on}
-use Rattle.rs_core.proofs.Touched.ChangedPrefixes.{touches_others_same}
+use Rattle.rs_core.proofs.Touched.ChangedPrefixes.{others_touched_on, touches_none, touches_others_same}
 
 -- ---- prefixes one by one
 
@@ -118,6 +119,55 @@ routes_on c q old mid new count sessions buffers watched config others touches o
   others = others;
   touched = touches_on c old.ribs mid.ribs new.ribs (mid.ribs_len ∙ was.count ∙ sym old.ribs_len) was.touched (change_touches c q mid.ribs new.ribs touches);
   others_touched = others_touched;
+}
+
+-- no route has changed
+pub routes_same : (c : ℕ) (old new : Core) → new.count ≡ old.count → new.sessions ≡ old.sessions → new.buffers ≡ old.buffers → new.watched ≡ old.watched → new.ribs.config ≡ old.ribs.config → Same old.ribs.tables new.ribs.tables
+    → new.ribs.outlets ≡ old.ribs.outlets → ChangesRoutes c old new
+routes_same c old new count sessions buffers watched config same outlets = record {
+  count = count;
+  sessions = sessions;
+  buffers = buffers;
+  watched = watched;
+  config = config;
+  others = same_spared_behind c old.ribs.tables old.ribs.tables new.ribs.tables same (none_spared c old.ribs.tables);
+  touched = record { own = outlet c; others = λ d none lt ne. alone_is _ _ (outlet d none) };
+  others_touched = touches_none c old.ribs new.ribs (same.held c) (λ d none ne. outlet d none);
+} where
+  outlet : (d : ℕ) (none : View) → outlet_in new.ribs d none ≡ outlet_in old.ribs d none
+  outlet d none = ap (λ (v : Vec View). slice_index_or v.items d none) outlets
+
+-- some have, and then others
+routes_join : (c : ℕ) (old mid new : Core) → ((p : Prefix) → (held_of mid.ribs.tables c p ≡ held_of old.ribs.tables c p) ⊎ (held_of new.ribs.tables c p ≡ held_of mid.ribs.tables c p)) → ChangesRoutes c old mid → ChangesRoutes c mid new → ChangesRoutes c old new
+routes_join c old mid new apart a b = record {
+  count = b.count ∙ a.count;
+  sessions = b.sessions ∙ a.sessions;
+  buffers = b.buffers ∙ a.buffers;
+  watched = b.watched ∙ a.watched;
+  config = b.config ∙ a.config;
+  others = record { held = λ d p ne. b.others.held d p ne ∙ a.others.held d p ne; identifiers = λ d ne. b.others.identifiers d ne ∙ a.others.identifiers d ne };
+  touched = touches_on c old.ribs mid.ribs new.ribs count a.touched b.touched;
+  others_touched = others_touched_on c old.ribs mid.ribs new.ribs count apart a.others_touched b.others_touched;
+} where
+  count : mid.ribs.count ≡ old.ribs.count
+  count = mid.ribs_len ∙ a.count ∙ sym old.ribs_len
+
+-- between two that change none
+pub routes_between : (c : ℕ) (old first last new : Core) → ChangesRoutes c first last → ChangesRoutes c old first → ChangesRoutes c last new → Same old.ribs.tables first.ribs.tables → Same last.ribs.tables new.ribs.tables → ChangesRoutes c old new
+routes_between c old first last new changes before behind same_before same_behind = routes_join c old last new (λ p. inr (same_behind.held c p)) (routes_join c old first last (λ p. inl (same_before.held c p)) before changes) behind
+
+pub overlaid_between : (c : ℕ) (ps : List Prefix) (w : Option (List Attribute)) (old first last new : AdjIns) → Same old first → Same last new → HasOverlaid c ps w first last → HasOverlaid c ps w old new
+overlaid_between c ps w old first last new before behind has = record {
+  held = λ p. behind.held c p ∙ has.held p ∙ ap (λ o. if has_prefix p ps then w else o) (before.held c p);
+  identifier = behind.identifiers c ∙ has.identifier ∙ before.identifiers c;
+}
+
+pub some_between : (c : ℕ) (ps : List Prefix) (w : Option (List Attribute)) (old first last new : AdjIns) → Same old first → Same last new → HasOverlaidSome c ps w first last → HasOverlaidSome c ps w old new
+some_between c ps w old first last new before behind has = record {
+  held = λ p. elim (has.held p) [
+    | inl same ↦ inl (behind.held c p ∙ same ∙ before.held c p)
+    | inr written ↦ inr (written.0, behind.held c p ∙ written.1)
+  ];
 }
 
 -- ---- a change

@@ -1,7 +1,7 @@
 use Rattle.std.specs.Prelude.{take, Some}
 use Rattle.std.specs.Arc.{arc_value}
 use Rattle.rs_core.specs.Run.Parts.{ChangesRoutes, HasOverlaid}
-use Rattle.rs_core.proofs.route_server.Core.announce_all.Given as goal
+use Rattle.rs_core.proofs.route_server.Core.announce_each.Given as goal
 
 abbrev pub invariant-loop-prefix : goal.invariant-loop-prefix
 invariant-loop-prefix l = record {
