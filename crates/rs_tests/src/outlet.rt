@@ -98,10 +98,11 @@ impl Exchange {
     fn announce(&mut self, rt: &impl Abort, member: usize, prefix: Prefix, attrs: &Arc<Attrs>) {
         assert!(rt; member < self.config.clients());
         assert!(rt; member < self.tables.clients());
-        assert!(rt; attrs.has_mandatory());
-        let note = import_note(&self.config, member, &prefix, attrs);
+        let shared = self.tables.share(attrs).expect(rt, "a set");
+        assert!(rt; shared.attrs.has_mandatory());
+        let note = import_note(&self.config, member, &prefix, &shared.attrs);
         self.tables
-            .put(member, prefix, attrs, note, 0)
+            .put(member, prefix, &shared.attrs, note, shared.set)
             .expect(rt, "a route");
     }
 

@@ -111,9 +111,10 @@ fn attrs(rt: &impl Abort, alloc: Global, host: u8) -> Arc<Attrs> {
 fn announce(rt: &impl Abort, tables: &mut AdjIns, member: usize, n: u32, attrs: &Arc<Attrs>) {
     let prefix = prefix(rt, 0x0a00_0000 | (n & 0xffff) << 8, 24);
     assert!(rt; member < tables.clients());
-    assert!(rt; attrs.has_mandatory());
+    let shared = tables.share(attrs).expect(rt, "a set");
+    assert!(rt; shared.attrs.has_mandatory());
     tables
-        .put(member, prefix, attrs, 0, 0)
+        .put(member, prefix, &shared.attrs, 0, shared.set)
         .expect(rt, "a route");
 }
 

@@ -77,10 +77,11 @@ fn changes_at(
     want: bool,
 ) {
     assert!(rt; client < ins.clients());
-    assert!(rt; attrs.has_mandatory());
+    let shared = ins.share(attrs).expect(rt, "a set");
+    assert!(rt; shared.attrs.has_mandatory());
     let number = ins.add(prefix(rt, of)).expect(rt, "a number");
     let changed = ins
-        .put_at(client, number, attrs, 0, 0)
+        .put_at(client, number, &shared.attrs, 0, shared.set)
         .expect(rt, "a route");
     equals(rt, changed, want);
 }
@@ -140,8 +141,9 @@ fn routes_by_number_are_routes_by_prefix(rt: HostRuntime) {
 /// Client 0 announces so many prefixes from this /24 on and withdraws them, and then the numbers
 /// that there are are given up.
 fn come_and_go(rt: &impl Abort, ins: &mut AdjIns, attrs: &Arc<Attrs>, first: u32, count: u32) {
+    let shared = ins.share(attrs).expect(rt, "a set");
     for n in first..first.saturating_add(count) {
-        put(rt, ins, 0, (n.wrapping_mul(256), 24), attrs);
+        put_in(rt, ins, 0, (n.wrapping_mul(256), 24), &shared).expect(rt, "a route");
     }
     for n in first..first.saturating_add(count) {
         withdraw(rt, ins, 0, (n.wrapping_mul(256), 24));

@@ -66,7 +66,8 @@ fn put_tells_whether_the_value_changed(rt: HostRuntime) {
     are_at(&rt, alloc, &ins, OTHER, &[(0, 1), (1, 3)]);
     are_at(&rt, alloc, &ins, INNER, &[(0, 2), (1, 3)]);
     holds(&rt, alloc, &ins, 1, &ALL_THREE);
-    equals(&rt, Arc::strong_count(&other), 3);
+    // It and two routes share them, and the table of sets twice: by their order and by their number.
+    equals(&rt, Arc::strong_count(&other), 5);
     let_attrs_go(same);
     let_attrs_go(other);
     let_go(ins);
@@ -188,17 +189,23 @@ fn is_put(rt: &impl Abort, ins: &mut AdjIns, client: usize, third: u8, attrs: &A
     equals(rt, sizes(rt, ins, client, prefix(rt, of)), want);
 }
 
+/// Attributes for 60 routes, each with others.
+fn sixty(rt: &impl Abort, alloc: Global) -> Vec<Arc<Attrs>> {
+    let mut all = Vec::new(alloc);
+    for host in 0..60 {
+        push(rt, &mut all, attrs(rt, alloc, host));
+    }
+    all
+}
+
 /// Memory is refused nowhere in an ordinary run: this is for runs in which one allocation fails.
 #[test]
 fn a_refused_put_changes_nothing(rt: HostRuntime) {
     let alloc = rt.alloc();
     let mut ins = tables(&rt, alloc, 3);
-    let one = attrs(&rt, alloc, 1);
-    for client in 0..3 {
-        for third in 0..20u8 {
-            is_put(&rt, &mut ins, client, third, &one);
-        }
+    let all = sixty(&rt, alloc);
+    for (n, attrs) in all.iter().enumerate() {
+        is_put(&rt, &mut ins, n / 20, (n % 20) as u8, attrs);
     }
-    let_attrs_go(one);
     let_go(ins);
 }

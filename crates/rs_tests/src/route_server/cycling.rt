@@ -56,11 +56,18 @@ fn update(
     octets
 }
 
-/// The member announces prefixes from a number on in one UPDATE.
-fn announce(rt: &impl Abort, exchange: &mut Exchange, first: u32) {
+/// The member announces prefixes from a number on in one UPDATE, with this ORIGIN.
+fn announce_with(rt: &impl Abort, exchange: &mut Exchange, first: u32, origin: u8) {
     let all = prefixes(rt, exchange.alloc, first);
-    let announced = update(rt, exchange.alloc, &[], &ATTRIBUTES, &all);
+    let mut attributes = ATTRIBUTES;
+    attributes[3] = origin;
+    let announced = update(rt, exchange.alloc, &[], &attributes, &all);
     exchange.hear_octets(rt, A, &announced);
+}
+
+/// The same with ORIGIN IGP.
+fn announce(rt: &impl Abort, exchange: &mut Exchange, first: u32) {
+    announce_with(rt, exchange, first, 0);
 }
 
 /// It withdraws them.
@@ -100,19 +107,23 @@ fn cycled_prefixes_make_no_table_grow(rt: HostRuntime) {
 }
 
 #[test]
-fn each_update_is_a_set_of_attributes(rt: HostRuntime) {
+fn equal_attributes_are_one_set(rt: HostRuntime) {
     let mut exchange = Exchange::of_both(&rt, rt.alloc(), "");
     equals(&rt, exchange.core.attribute_sets(), 0);
     announce(&rt, &mut exchange, 0x0a_0000);
     equals(&rt, exchange.core.attribute_sets(), 1);
     announce(&rt, &mut exchange, 0x0b_0000);
+    equals(&rt, exchange.core.attribute_sets(), 1);
+    announce_with(&rt, &mut exchange, 0x0c_0000, 1);
     equals(&rt, exchange.core.attribute_sets(), 2);
     // What is announced as it stands keeps its set.
-    announce(&rt, &mut exchange, 0x0b_0000);
+    announce_with(&rt, &mut exchange, 0x0c_0000, 1);
     equals(&rt, exchange.core.attribute_sets(), 2);
     withdraw(&rt, &mut exchange, 0x0b_0000);
-    equals(&rt, exchange.core.attribute_sets(), 1);
-    announce(&rt, &mut exchange, 0x0c_0000);
     equals(&rt, exchange.core.attribute_sets(), 2);
+    withdraw(&rt, &mut exchange, 0x0c_0000);
+    equals(&rt, exchange.core.attribute_sets(), 1);
+    announce_with(&rt, &mut exchange, 0x0a_0000, 2);
+    equals(&rt, exchange.core.attribute_sets(), 1);
     exchange.let_go();
 }
