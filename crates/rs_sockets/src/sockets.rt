@@ -1,8 +1,6 @@
 //! The ports that are sockets of the system, its clock, the files of the configuration, and the
 //! standard streams.
 
-ghost use Rattle.std.specs.Prelude.{IfSome};
-ghost use Rattle.rs_live.specs.Orders.{IsOf};
 ghost use Rattle.rs_reports.specs.Levels.{is_shown};
 
 mod listening;
@@ -11,7 +9,6 @@ use crate::configuration::Configuration;
 use crate::lines::Lines;
 use crate::listeners::{Accepted, Listeners};
 use crate::record::Record;
-use crate::shown::Shown;
 pub use crate::sockets::listening::ListenFault;
 use crate::sockets::listening::{FIRST_LISTENER, Listening};
 use mio::net::TcpStream;
@@ -25,6 +22,7 @@ use rs_live::serve::ServeFault;
 use rs_reports::logging::{Level, Log, Stamp};
 use rs_reports::names::Names;
 use rs_reports::reports::{Report, Worded};
+use rs_shown::shown::Shown;
 use rs_streams::file_watch::{FileFault, FileWatch};
 use rs_streams::printer::Printer;
 use rs_streams::record_file::RecordEnd;
@@ -273,15 +271,6 @@ impl<'a, R: Net + Clock + Files> Sockets<'a, R> {
         Ok(is_read)
     }
 
-    /// The next order of the operator's, to a server of so many clients. One to reload hurries.
-    fn next_order(&mut self, clients: usize) -> Option<Order>
-        ensures { IfSome result (λ order. IsOf clients order) }
-    {
-        let order = self.shown.take_order()?;
-        self.is_hurried |= order == Order::Reload;
-        orders::of(order, clients)
-    }
-
     /// What a line of the log begins with now.
     fn stamp(&self) -> Stamp {
         if self.log.has_utc
@@ -437,7 +426,10 @@ impl<'a, R: Net + Clock + Files> Ports for Sockets<'a, R> {
     }
 
     fn command(&mut self, clients: usize) -> Option<Order> {
-        self.next_order(clients)
+        let order = self.shown.take_order()?;
+        // One to reload hurries.
+        self.is_hurried |= order == Order::Reload;
+        orders::of(order, clients)
     }
 
     fn print(&mut self, line: &Line) {

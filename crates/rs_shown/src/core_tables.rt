@@ -7,7 +7,7 @@ ghost use Rattle.rs_core.specs.Run.Agreeing.{Agrees};
 ghost use Rattle.rs_core.specs.Run.Meaning.{table};
 ghost use Rattle.rs_core.specs.Run.Moves.{Move};
 ghost use Rattle.rs_page_parts.specs.Firsts.{IsFirst};
-ghost use Rattle.rs_sockets.specs.Shown.{due_last, speech_with};
+ghost use Rattle.rs_shown.specs.Shown.{due_last, speech_with};
 
 use rs_attrs::{Attrs, Mode};
 use rs_core::{Core, Ending};
@@ -75,7 +75,7 @@ impl<'a> CoreTables<'a> {
 }
 
 impl Tables for CoreTables<'_> {
-    ghost use Rattle.rs_sockets.specs.Shown.{AreHeld, IsFirstOf, IsConfigured, IsSpokenTo};
+    ghost use Rattle.rs_shown.specs.Shown.{AreHeld, IsFirstOf, IsConfigured, IsSpokenTo};
 
     ghost first = { λ tables rib member at route. IsFirstOf tables.0.now rib member at route };
 

@@ -19,7 +19,7 @@ use std::alloc::{AllocError, Global};
 
 /// What a server shows, and where.
 #[derive(Drop)]
-pub(crate) struct Shown {
+pub struct Shown {
     window: Option<Window>,
     control: Option<Control>,
     /// When the server started, in seconds since 1970-01-01T00:00:00Z.
@@ -32,10 +32,10 @@ pub(crate) struct Shown {
 }
 
 impl Shown {
-    ghost use Rattle.rs_sockets.specs.Given.{due_to};
+    ghost use Rattle.rs_shown.specs.Given.{due_to};
 
     /// A server of so many members, which is shown nowhere yet.
-    pub(crate) fn new(alloc: Global, members: usize, start: u64) -> Result<Shown, AllocError> {
+    pub fn new(alloc: Global, members: usize, start: u64) -> Result<Shown, AllocError> {
         Ok(Shown {
             window: None,
             control: None,
@@ -47,31 +47,31 @@ impl Shown {
     }
 
     /// It is shown through this window.
-    pub(crate) fn open_window(&mut self, window: Window) {
+    pub fn open_window(&mut self, window: Window) {
         self.window = Some(window);
     }
 
     /// Commands are taken at this socket.
-    pub(crate) fn open_control(&mut self, control: Control) {
+    pub fn open_control(&mut self, control: Control) {
         self.control = Some(control);
     }
 
     /// Something may have become of the socket of the window with this token.
-    pub(crate) fn note(&mut self, token: usize) {
+    pub fn note(&mut self, token: usize) {
         if let Some(window) = &mut self.window {
             window.note(token);
         }
     }
 
     /// Something may have become of the control socket, or of a connection to it, with this token.
-    pub(crate) fn note_control(&mut self, token: usize) {
+    pub fn note_control(&mut self, token: usize) {
         if let Some(control) = &mut self.control {
             control.note(token);
         }
     }
 
     /// The next order, of which it is noted who is kept down then.
-    pub(crate) fn take_order(&mut self) -> Option<Order>
+    pub fn take_order(&mut self) -> Option<Order>
         ensures { due_to self.old ≡ option_to_list result ++ due_to self.new }
     {
         let order = self.next_order()?;
@@ -101,7 +101,7 @@ impl Shown {
     }
 
     /// A reload was ordered of which it is not known what came of it.
-    pub(crate) fn is_reloading(&self) -> bool {
+    pub fn is_reloading(&self) -> bool {
         match &self.control {
             Some(control) => control.is_reloading(),
             None => false,
@@ -109,7 +109,7 @@ impl Shown {
     }
 
     /// This came of the reload that was ordered.
-    pub(crate) fn tell(&mut self, reloaded: Reloaded)
+    pub fn tell(&mut self, reloaded: Reloaded)
         ensures { due_to self.new ≡ due_to self.old }
     {
         if let Some(control) = &mut self.control {
@@ -118,12 +118,12 @@ impl Shown {
     }
 
     /// It is shown somewhere.
-    pub(crate) fn is_open(&self) -> bool {
+    pub fn is_open(&self) -> bool {
         self.window.is_some() || self.control.is_some()
     }
 
     /// Counts what happens, so many microseconds after the start.
-    pub(crate) fn observe(&mut self, what: Observed<'_>, now: u64) {
+    pub fn observe(&mut self, what: Observed<'_>, now: u64) {
         match what {
             Observed::Heard(c, octets) => self.changes.counts.pass(Direction::Heard, c, octets),
             Observed::Sent(c, octets) => self.changes.counts.pass(Direction::Sent, c, octets),
@@ -137,7 +137,7 @@ impl Shown {
     }
 
     /// What a line says happened in this second.
-    pub(crate) fn note_line(&mut self, line: &Line, second: u64) {
+    pub fn note_line(&mut self, line: &Line, second: u64) {
         match line {
             Line::Begin(c) => self.changes.counts.begin(*c),
             Line::Memory(_) => self.changes.counts.refuse_memory(),
@@ -149,7 +149,7 @@ impl Shown {
 
     /// Gives up the connections of all visitors, or where there are none of all operators, and answers whether
     /// there were any.
-    pub(crate) fn give_up(&mut self, poll: &Poll, now: u64) -> bool {
+    pub fn give_up(&mut self, poll: &Poll, now: u64) -> bool {
         if let Some(window) = &mut self.window
             && window.give_up(poll, now)
         {
@@ -163,7 +163,7 @@ impl Shown {
 
     /// Looks at the members, and goes on with all visitors and operators, at so many milliseconds since the
     /// start; answers whether something was left undone.
-    pub(crate) fn go_on(
+    pub fn go_on(
         &mut self,
         poll: &Poll,
         alloc: Global,

@@ -1,8 +1,8 @@
 use Rattle.std.proofs.Common.{arith, subst, sym}
-use Rattle.rs_sockets.specs.Shown.{due_last}
-use Rattle.rs_sockets.proofs.Showing.{begun_due}
+use Rattle.rs_shown.specs.Shown.{due_last}
+use Rattle.rs_shown.proofs.Showing.{begun_due}
 use Rattle.rs_page_parts.proofs.Firsts.{AreLeft, passed, found, emptied}
-use Rattle.rs_sockets.proofs.core_tables.CoreTables.first_sent.Goals as goal
+use Rattle.rs_shown.proofs.core_tables.CoreTables.first_sent.Goals as goal
 
 pub loop-prefix-init : goal.loop-prefix-init
 loop-prefix-init c = λ run agrees.

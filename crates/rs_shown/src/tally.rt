@@ -1,7 +1,7 @@
 //! How many lines of each kind came, so that none is left out where one is printed for several.
 
 ghost use Rattle.std.specs.Prelude.{◌≡◌, ◌≢◌, ◌+◌, ◌<◌};
-ghost use Rattle.rs_sockets.specs.Tallies.{kind_of, counted_in};
+ghost use Rattle.rs_shown.specs.Tallies.{kind_of, counted_in};
 
 use rs_live::ports::Line;
 

@@ -1,7 +1,7 @@
 use Rattle.std.proofs.Common.{arith, subst, sym}
 use Rattle.rs_core.specs.Run.Meaning.{table}
 use Rattle.rs_page_parts.proofs.Firsts.{AreLeft, begun, passed, found, emptied}
-use Rattle.rs_sockets.proofs.core_tables.CoreTables.first_received.Goals as goal
+use Rattle.rs_shown.proofs.core_tables.CoreTables.first_received.Goals as goal
 
 pub loop-prefix-init : goal.loop-prefix-init
 loop-prefix-init c = λ run agrees.

@@ -3,7 +3,7 @@ use Rattle.std.specs.Prelude.{List, [], Option, Some, None}
 use Rattle.rs_control.specs.declared.order.Order.{Order}
 use Rattle.rs_visitors.specs.Dues.{due_at}
 use Rattle.rs_visitors.specs.declared.control.Control.{Control}
-use Rattle.rs_sockets.specs.declared.shown.Shown.{Shown}
+use Rattle.rs_shown.specs.declared.shown.Shown.{Shown}
 
 -- what waits at the control socket, where there is one
 abbrev pub due_by : Option Control → List Order

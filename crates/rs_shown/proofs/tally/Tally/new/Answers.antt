@@ -1,6 +1,6 @@
 use Rattle.std.proofs.Common.{refl}
 use Rattle.rs_live.specs.declared.ports.Line.TheVariants.{Begin, Busy, Disabled, Stranger, Close, Lost, Memory, Rules, File}
-use Rattle.rs_sockets.proofs.tally.Tally.new.Goals as goal
+use Rattle.rs_shown.proofs.tally.Tally.new.Goals as goal
 
 pub returns : goal.returns
 returns c (Begin d) = refl

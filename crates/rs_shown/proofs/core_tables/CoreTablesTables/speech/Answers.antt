@@ -3,8 +3,8 @@ use Rattle.rs_session.specs.Sessions.{agreed_of}
 use Rattle.rs_core.specs.Run.Moves.{config_in}
 use Rattle.rs_core.specs.Run.Meaning.{hearing}
 use Rattle.rs_core.specs.Session.Hearing.{is_up, session_in, state_in}
-use Rattle.rs_sockets.proofs.Showing.{spoken}
-use Rattle.rs_sockets.proofs.core_tables.CoreTablesTables.speech.Goals as goal
+use Rattle.rs_shown.proofs.Showing.{spoken}
+use Rattle.rs_shown.proofs.core_tables.CoreTablesTables.speech.Goals as goal
 
 pub returns : goal.returns
 returns c = record {

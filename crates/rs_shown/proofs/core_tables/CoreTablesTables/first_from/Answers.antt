@@ -1,8 +1,8 @@
 use Rattle.std.proofs.Common.{arith, option_map, subst, sym}
 use Rattle.std.specs.Arc.{arc_value}
 use Rattle.rs_page_parts.specs.Firsts.{IsFirst}
-use Rattle.rs_sockets.specs.Shown.{table_after}
-use Rattle.rs_sockets.proofs.core_tables.CoreTablesTables.first_from.Goals as goal
+use Rattle.rs_shown.specs.Shown.{table_after}
+use Rattle.rs_shown.proofs.core_tables.CoreTablesTables.first_from.Goals as goal
 
 pub returns-in-Received : goal.returns-in-Received
 returns-in-Received c = record {

@@ -18,7 +18,7 @@ use Rattle.rs_core.specs.declared.route_server.Core.{Core}
 use Rattle.rs_core.proofs.Told.InTurn.{has_what_was_due}
 use Rattle.rs_page_parts.specs.Keys.{key_of}
 use Rattle.rs_page_parts.proofs.Firsts.{AreLeft, begun}
-use Rattle.rs_sockets.specs.Shown.{due_last, speech_with}
+use Rattle.rs_shown.specs.Shown.{due_last, speech_with}
 
 nothing : (b : Bool) (o : Option (List Attribute)) → o ≡ None → o ≡ (if b then o else None)
 nothing true o e = refl
