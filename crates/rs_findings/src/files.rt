@@ -6,16 +6,16 @@ use std::fmt;
 
 /// Files as one text, and the name of each.
 #[derive(Clone, Copy)]
-pub(crate) struct Files<'a> {
-    pub(crate) texts: &'a Joined,
-    pub(crate) names: &'a [String],
+pub struct Files<'a> {
+    pub texts: &'a Joined,
+    pub names: &'a [String],
 }
 
 /// Files, and their text.
 #[derive(Clone, Copy)]
-pub(crate) struct Source<'a> {
-    pub(crate) files: Files<'a>,
-    pub(crate) text: &'a str,
+pub struct Source<'a> {
+    pub files: Files<'a>,
+    pub text: &'a str,
 }
 
 /// Where something stands, as a line begins with it.

@@ -13,7 +13,7 @@ use toml::value::Value;
 const SHOWN: usize = 60;
 
 /// Where octets are no UTF-8: behind so many.
-pub(crate) fn not_utf_8_line(
+pub fn not_utf_8_line(
     alloc: Global,
     files: &Files<'_>,
     front: usize,
@@ -23,7 +23,7 @@ pub(crate) fn not_utf_8_line(
 }
 
 /// Where a text is no TOML document, and why.
-pub(crate) fn syntax_line(
+pub fn syntax_line(
     alloc: Global,
     files: &Files<'_>,
     error: &toml::de::Error,
@@ -277,7 +277,7 @@ fn strangers_line(
 }
 
 /// The line about a fault of a text that is a document.
-pub(crate) fn line_about(
+pub fn line_about(
     alloc: Global,
     source: &Source<'_>,
     document: &Value,

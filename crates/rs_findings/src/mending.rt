@@ -197,7 +197,7 @@ fn with_own_name(alloc: Global, text: &str, table: Table) -> Result<Option<Strin
 }
 
 /// The text of a document with its first fault mended; None where it isn't known how.
-pub(crate) fn mended(
+pub fn mended(
     alloc: Global,
     text: &str,
     document: &Value,

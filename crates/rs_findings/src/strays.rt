@@ -17,7 +17,7 @@ fn behind_first<'t>(alloc: Global, s: &'t str) -> Result<Option<&'t str>, AllocE
 
 /// Behind how many octets of the text such pairs of a key and a value stand, one for each file; fewer
 /// where the text can't be read on.
-pub(crate) fn strays_of(alloc: Global, source: &Source<'_>) -> Result<Vec<usize>, AllocError> {
+pub fn strays_of(alloc: Global, source: &Source<'_>) -> Result<Vec<usize>, AllocError> {
     let mut strays = Vec::new(alloc);
     if source.files.texts.starts.len() < 2 {
         return Ok(strays);
@@ -48,11 +48,7 @@ pub(crate) fn strays_of(alloc: Global, source: &Source<'_>) -> Result<Vec<usize>
 }
 
 /// The line about such a pair, behind so many octets of the text.
-pub(crate) fn stray_line(
-    alloc: Global,
-    source: &Source<'_>,
-    front: usize,
-) -> Result<String, AllocError> {
+pub fn stray_line(alloc: Global, source: &Source<'_>, front: usize) -> Result<String, AllocError> {
     let at = source.files.position(front);
     format!(in alloc; "warning: {at}this belongs to the last table of the file before")
 }
