@@ -2,7 +2,7 @@ use Rattle.std.proofs.Common.{◌++◌, refl, sym, ◌∙◌, arith}
 use Rattle.rs_octets.specs.Messages.{rest_of}
 use Rattle.rs_page_parts.specs.Updates.{any}
 use Rattle.rs_page_parts.proofs.Counted.{goes_on, header_refused}
-use Rattle.rs_page_parts.proofs.counts.traffic.Traffic.end_header.Goals as goal
+use Rattle.rs_page_parts.proofs.traffic.Traffic.end_header.Goals as goal
 
 pub returns-in-Ok-clause-counted : goal.returns-in-Ok-clause-counted
 returns-in-Ok-clause-counted c before octets part count same = c.begin_body.ensures.counted before octets part count same (sym c.header.ensures.value ∙ c.in-Ok.is)

@@ -2,7 +2,7 @@ use Rattle.std.proofs.Common.{refl, subst, arith}
 use Rattle.rs_octets.specs.Messages.{rest_of}
 use Rattle.rs_page_parts.specs.Updates.{any, IsAt}
 use Rattle.rs_page_parts.proofs.Counted.{goes_on, body_on, body_ends}
-use Rattle.rs_page_parts.proofs.counts.traffic.Traffic.pass_body.Goals as goal
+use Rattle.rs_page_parts.proofs.traffic.Traffic.pass_body.Goals as goal
 
 pub returns-then-part-left-clause-counted : goal.returns-then-part-left-clause-counted
 returns-then-part-left-clause-counted c before octets is h =

@@ -3,7 +3,7 @@
 ghost use Rattle.std.specs.Prelude.{◌≡◌, ◌+◌, ◌<◌, min};
 
 /// The buckets' upper bounds: in microseconds, and in seconds as Prometheus writes them.
-pub(crate) const BOUNDS: [(u64, &str); 11] = [
+pub const BOUNDS: [(u64, &str); 11] = [
     (1_000, "0.001"),
     (2_500, "0.0025"),
     (5_000, "0.005"),
@@ -57,7 +57,7 @@ impl Histogram {
     }
 
     /// How many have come in so many buckets, from the first on.
-    pub(crate) fn within(&self, buckets: usize) -> u64 {
+    pub fn within(&self, buckets: usize) -> u64 {
         let mut sum = 0_u64;
         for (at, count) in self.counts.iter().enumerate() {
             if at < buckets {
@@ -68,7 +68,7 @@ impl Histogram {
     }
 
     /// The sum, in microseconds.
-    pub(crate) fn sum(&self) -> u64
+    pub fn sum(&self) -> u64
         ensures { result ≡ self.now.sum }
     {
         self.sum

@@ -1,6 +1,6 @@
 use Rattle.std.proofs.Common.{◌≡◌, ◌++◌, ℕ, List, length}
 use Rattle.rs_page_parts.specs.Traffic.{HasCounted}
-use Rattle.rs_page_parts.proofs.counts.traffic.Traffic.take.Given as goal
+use Rattle.rs_page_parts.proofs.traffic.Traffic.take.Given as goal
 
 -- what is left completes the piece
 abbrev pub invariant-loop-rest : goal.invariant-loop-rest

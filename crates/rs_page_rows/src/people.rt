@@ -1,13 +1,14 @@
 //! The pages for people: plain HTML and CSS.
 
-use crate::members::{Member, member_at, put_ending, put_member_row, put_named};
+use crate::members::{put_ending, put_member_row, put_named};
 use crate::moments::Moments;
 use crate::parts::{Part, put_parts, time};
-use crate::tables::{Ended, Tables};
-use crate::texts::put_prefix;
-use crate::views::Listing;
 use rs_attrs::Attrs;
 use rs_octets::Prefix;
+use rs_page_parts::members::{Member, member_at};
+use rs_page_parts::tables::{Ended, Tables};
+use rs_page_parts::texts::put_prefix;
+use rs_page_parts::views::Listing;
 use rs_window::page::Page;
 use std::alloc::{AllocError, Global};
 

@@ -1,10 +1,11 @@
 //! The heads of pages in JSON: birdwatcher's, and our own.
 
-use crate::keys::prefix_at;
-use crate::members::{imported, member_at};
+use crate::members::imported;
 use crate::moments::Moments;
 use crate::parts::{Part, put_parts, time};
-use crate::tables::Tables;
+use rs_page_parts::keys::prefix_at;
+use rs_page_parts::members::member_at;
+use rs_page_parts::tables::Tables;
 use rs_window::page::Page;
 use std::alloc::{AllocError, Global};
 

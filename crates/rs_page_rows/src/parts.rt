@@ -1,8 +1,9 @@
 //! The parts of which a page is put together.
 
 use crate::moments::Moments;
-use crate::texts::{put_address, put_html, put_json, put_number, put_prefix, put_time};
+use crate::times::put_time;
 use rs_octets::Prefix;
+use rs_page_parts::texts::{put_address, put_html, put_json, put_number, put_prefix};
 use std::alloc::{AllocError, Global};
 
 /// A part of a page.

@@ -1,7 +1,7 @@
 use Rattle.std.proofs.Common.{◌+◌, min, refl, ap, ◌∙◌}
 use Rattle.rs_page_parts.specs.Traffic.{greatest}
 use Rattle.rs_page_parts.proofs.Counted.{message_ends}
-use Rattle.rs_page_parts.proofs.counts.traffic.Traffic.end_message.Goals as goal
+use Rattle.rs_page_parts.proofs.traffic.Traffic.end_message.Goals as goal
 
 pub returns-clause-counted : goal.returns-clause-counted
 returns-clause-counted c before octets part count is =

@@ -2,7 +2,7 @@ use Rattle.std.proofs.Common.{◌++◌, refl, arith}
 use Rattle.rs_octets.specs.Messages.{rest_of}
 use Rattle.rs_page_parts.specs.Updates.{any}
 use Rattle.rs_page_parts.proofs.Counted.{goes_on, header_on, header_ends}
-use Rattle.rs_page_parts.proofs.counts.traffic.Traffic.begin_body.Goals as goal
+use Rattle.rs_page_parts.proofs.traffic.Traffic.begin_body.Goals as goal
 
 pub returns-then-length-gt19-clause-counted : goal.returns-then-length-gt19-clause-counted
 returns-then-length-gt19-clause-counted c before octets part count same e =

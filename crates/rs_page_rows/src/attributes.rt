@@ -6,9 +6,9 @@
 ghost use Rattle.std.specs.Prelude.{◌≡◌, length};
 
 use crate::parts::{Part, put_parts};
-use crate::texts::{put_hex, put_number};
 use byteorder::{BigEndian, ByteOrder};
 use rs_attrs::{Attrs, EXTENDED_COMMUNITIES, LARGE_COMMUNITY};
+use rs_page_parts::texts::{put_hex, put_number};
 use std::alloc::{AllocError, Global};
 
 /// As many items of a list are shown.

@@ -1,8 +1,8 @@
 //! What the live server knows beside its tables: when, and what was counted.
 
-use crate::counts::traffic::Traffic;
 use crate::counts::{Counts, Direction};
-use crate::tables::Tables;
+use rs_page_parts::tables::Tables;
+use rs_page_parts::traffic::Traffic;
 use std::alloc::{AllocError, Global};
 
 /// When what is shown happened. Seconds are those since the start, but for `start`.

@@ -1,11 +1,8 @@
 //! What is counted while the server runs: octets and UPDATEs of each member, the time that turns take, and what
 //! was refused. A count that is full stays so.
 
-pub mod histogram;
-pub mod traffic;
-
-use crate::counts::histogram::Histogram;
-use crate::counts::traffic::Traffic;
+use rs_page_parts::histogram::Histogram;
+use rs_page_parts::traffic::Traffic;
 use std::alloc::{AllocError, Global};
 
 /// What was heard of a member, and what was sent to it.

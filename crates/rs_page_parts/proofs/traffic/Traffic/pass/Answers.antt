@@ -2,7 +2,7 @@ use Rattle.std.proofs.Common.{◌++◌, refl, sym, subst, ap, arith}
 use Rattle.rs_octets.specs.Messages.{rest_of}
 use Rattle.rs_page_parts.specs.Updates.{any, IsAt, most_behind}
 use Rattle.rs_page_parts.proofs.Counted.{goes_on, refused_on}
-use Rattle.rs_page_parts.proofs.counts.traffic.Traffic.pass.Goals as goal
+use Rattle.rs_page_parts.proofs.traffic.Traffic.pass.Goals as goal
 
 pub pass_header-requires : goal.pass_header-requires
 pass_header-requires c = omega (arith, c.requires, ap most_behind c.in-Header.is, c.args.self.now.goes_on)

@@ -1,8 +1,9 @@
 //! The page that a target of a request names.
 
-use crate::keys::{key, parameter, parted, read_number, read_prefix};
-use crate::tables::Tables;
-use crate::views::View;
+use crate::queries::{parameter, parted, read_prefix};
+use rs_page_parts::keys::{key, read_number};
+use rs_page_parts::tables::Tables;
+use rs_page_parts::views::View;
 use rs_window::page::Page;
 
 /// The most routes that one of our own pages lists.

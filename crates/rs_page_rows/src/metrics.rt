@@ -1,11 +1,11 @@
 //! What Prometheus is told.
 
 use crate::counts::Direction;
-use crate::counts::histogram::{BOUNDS, Histogram};
 use crate::moments::Moments;
 use crate::parts::{Part, put_parts};
-use crate::tables::{Rib, Tables};
-use crate::texts::put_seconds;
+use crate::times::put_seconds;
+use rs_page_parts::histogram::{BOUNDS, Histogram};
+use rs_page_parts::tables::{Rib, Tables};
 use std::alloc::AllocError;
 
 /// A number that is told of each member.

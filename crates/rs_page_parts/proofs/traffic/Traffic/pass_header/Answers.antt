@@ -3,7 +3,7 @@ use Rattle.std.proofs.Math.Seq.{take-length}
 use Rattle.rs_octets.specs.Messages.{rest_of}
 use Rattle.rs_page_parts.specs.Updates.{any, IsAt}
 use Rattle.rs_page_parts.proofs.Counted.{goes_on, written_front}
-use Rattle.rs_page_parts.proofs.counts.traffic.Traffic.pass_header.Goals as goal
+use Rattle.rs_page_parts.proofs.traffic.Traffic.pass_header.Goals as goal
 
 pub returns-then-end-lt19-clause-counted : goal.returns-then-end-lt19-clause-counted
 returns-then-end-lt19-clause-counted c before octets is h =

@@ -2,7 +2,7 @@ use Rattle.std.proofs.Common.{◌++◌, [], refl, sym, ap, subst, ◌∙◌, app
 use Rattle.std.proofs.lemmas.List.{append-nil, take-append-drop}
 use Rattle.rs_page_parts.specs.Traffic.{HasCounted}
 use Rattle.rs_page_parts.proofs.Counted.{nothing_left}
-use Rattle.rs_page_parts.proofs.counts.traffic.Traffic.take.Goals as goal
+use Rattle.rs_page_parts.proofs.traffic.Traffic.take.Goals as goal
 
 pub loop-rest-init : goal.loop-rest-init
 loop-rest-init c = record {
