@@ -4,13 +4,11 @@
 ghost use Rattle.std.specs.Prelude.{◌≡◌, Err, IfOk, IfSome, string_bytes};
 ghost use Rattle.rs_policy.specs.Documents.{config_of};
 
-use crate::details::{line_about, syntax_line};
-use crate::files::Source;
-use crate::mending::mended;
 use crate::{tell, tell_line};
 use rs_command::configuration::ConfigurationFault;
+use rs_findings::{Source, is_new, line_about, mended, syntax_line};
 use rs_places::document_of;
-use rs_policy::{Config, ConfigFault, Key, Place, Table};
+use rs_policy::{Config, ConfigFault};
 use std::alloc::{AllocError, Global};
 use toml::value::Value;
 
@@ -20,59 +18,6 @@ const MOST: usize = 20;
 /// How often a text is mended.
 const MENDINGS: usize = 200;
 
-/// The place of a fault that has one.
-fn place_of(fault: &ConfigFault) -> Option<Place> {
-    match fault {
-        ConfigFault::Missing(place) | ConfigFault::BadValue(place) | ConfigFault::TooMany(place) =>
-            { Some(*place) }
-        _ => None,
-    }
-}
-
-/// Whether a fault was told, or another one at its place.
-fn is_told(told: &[ConfigFault], fault: &ConfigFault) -> bool {
-    let place = place_of(fault);
-    told.iter().any(|earlier| earlier == fault || place.is_some() && place_of(earlier) == place)
-}
-
-/// Whether a key names a client, a list or rules.
-fn is_name(key: Key) -> bool {
-    matches!(
-        key,
-        Key::From | Key::PrefixIn | Key::PathIn | Key::OriginIn | Key::Use
-    )
-}
-
-/// Whether a fault may come of how an earlier one was mended: names of clients, lists and
-/// rules are looked for by rules.
-fn hangs_on(told: &[ConfigFault], fault: &ConfigFault) -> bool {
-    match place_of(fault) {
-        Some(place) if is_name(place.key) => told.iter().any(changes_names),
-        _ => false,
-    }
-}
-
-/// Whether a fault is of a table whose faulty `use` was left out: without it another rule stands there.
-fn is_without_use(found: &[ConfigFault], fault: &ConfigFault) -> bool {
-    let Some(Place { table, .. }) = place_of(fault) else {
-        return false;
-    };
-    let key = Key::Use;
-    found.contains(&ConfigFault::BadValue(Place { table, key }))
-}
-
-/// Whether to mend a fault changes which names there are, or what a list has.
-fn changes_names(fault: &ConfigFault) -> bool {
-    let Some(Place { table, key }) = place_of(fault) else {
-        return true;
-    };
-    matches!(table, Table::List(_) | Table::Entry(_, _))
-        || matches!(
-            key,
-            Key::Name | Key::Client | Key::List | Key::Rules | Key::Other
-        )
-}
-
 /// The faults of a text so far, and those of them that were told.
 #[derive(Drop)]
 struct Faults {
@@ -81,13 +26,6 @@ struct Faults {
 }
 
 impl Faults {
-    /// Whether a fault is to be told: it comes neither of one before, nor of how that was mended.
-    fn is_new(&self, fault: &ConfigFault) -> bool {
-        !hangs_on(&self.told, fault)
-            && !is_without_use(&self.found, fault)
-            && !is_told(&self.told, fault)
-    }
-
     /// Takes the next fault, and tells it if it is new. The first was printed. Answers whether more may be told.
     fn take<R: Eprint>(
         &mut self,
@@ -97,7 +35,7 @@ impl Faults {
         document: &Value,
         fault: ConfigFault,
     ) -> Result<bool, AllocError> {
-        if self.is_new(&fault) {
+        if is_new(&self.found, &self.told, &fault) {
             if self.told.len() == MOST {
                 tell(rt, "there are more");
                 return Ok(false);

@@ -1,34 +1,22 @@
 //! What `--check` says of the files of a configuration: that it is good, and what is likely wrong in it
 //! all the same; or its faults, with where they are, what stands there and what is expected.
 //!
-//! `files` knows in which file a place of the text lies that they are together, and `strays` what belongs to
-//! a table of the file before its own. `find` looks for a value in the text of a document, and `place` for the
-//! one at a place of a configuration, which has `rs_places` try what was found. `forms` has the keys and the
-//! forms of their values, `details` the line about a fault, `mending` the text without it, by which the next one
-//! is found, `faults` those that are told, and `warnings` what is good but likely wrong.
+//! `rs_findings` has the line about each fault and each warning, and the text with a fault mended, by which the
+//! next one is found; `faults` has those that are told, and `warnings` what is good but likely wrong.
 #![tactic(auto)]
 
-mod details;
 mod faults;
-mod files;
-mod find;
-mod forms;
-mod mending;
-mod place;
-mod strays;
 mod warnings;
 
 ghost use Rattle.std.specs.Prelude.{◌≡◌, ◌≢◌, IfOk, IsOk, IsErr, IsUtf8};
 ghost use Rattle.rs_policy.specs.Documents.{config_of};
 ghost use Rattle.rs_command.specs.declared.status.Status.TheVariants as statuses;
 
-use crate::details::not_utf_8_line;
 use crate::faults::tell_faults;
-use crate::files::{Files, Source};
-use crate::strays::{stray_line, strays_of};
-use crate::warnings::{Warning, warnings_of};
+use crate::warnings::warnings_of;
 use rs_command::Status;
 use rs_command::configuration::{ConfigurationFault, Unconfigured, configuration_of, read_texts};
+use rs_findings::{Files, Source, Warning, not_utf_8_line, stray_line, strays_of};
 use rs_policy::Config;
 use rs_texts::Joined;
 use std::alloc::{AllocError, Global};

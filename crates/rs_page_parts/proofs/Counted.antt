@@ -15,9 +15,9 @@ use Rattle.rs_octets.proofs.Cut.{alone, header_long, none_found, pieces_join, st
 use Rattle.rs_octets.proofs.GoodHeaders.{of_type_is}
 use Rattle.rs_page_parts.specs.Updates.{any, is_update, updates_among, update_count, IsAt}
 use Rattle.rs_page_parts.specs.Traffic.{greatest, IsCountOf, HasCounted}
-use Rattle.rs_page_parts.specs.declared.counts.traffic.Reading.{Reading}
-use Rattle.rs_page_parts.specs.declared.counts.traffic.Reading.TheVariants as readings
-use Rattle.rs_page_parts.specs.declared.counts.traffic.Traffic.{Traffic}
+use Rattle.rs_page_parts.specs.declared.traffic.Reading.{Reading}
+use Rattle.rs_page_parts.specs.declared.traffic.Reading.TheVariants as readings
+use Rattle.rs_page_parts.specs.declared.traffic.Traffic.{Traffic}
 
 -- a piece adds the UPDATEs among the messages of the rest with it
 joined : (octets part : List ℕ) → update_count (octets ++ part) ≡ update_count octets + updates_among (messages_of any (rest_of any octets ++ part))

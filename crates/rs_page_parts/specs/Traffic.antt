@@ -2,7 +2,7 @@
 use Rattle.std.specs.Prelude.{◌≡◌, ℕ, ◌+◌, List, min}
 use Rattle.rs_octets.specs.Messages.{rest_of}
 use Rattle.rs_page_parts.specs.Updates.{any, update_count, IsAt}
-use Rattle.rs_page_parts.specs.declared.counts.traffic.Traffic.{Traffic}
+use Rattle.rs_page_parts.specs.declared.traffic.Traffic.{Traffic}
 
 -- the greatest count that there is
 abbrev pub greatest : ℕ

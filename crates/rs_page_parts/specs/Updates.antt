@@ -5,8 +5,8 @@ use Rattle.rs_octets.specs.declared.heads.Head.{Head}
 use Rattle.rs_octets.specs.declared.heads.HeaderFault.{HeaderFault}
 use Rattle.rs_octets.specs.Headers.{header_of, type_number}
 use Rattle.rs_octets.specs.Messages.{messages_of}
-use Rattle.rs_page_parts.specs.declared.counts.traffic.Reading.{Reading}
-use Rattle.rs_page_parts.specs.declared.counts.traffic.Reading.TheVariants as readings
+use Rattle.rs_page_parts.specs.declared.traffic.Reading.{Reading}
+use Rattle.rs_page_parts.specs.declared.traffic.Reading.TheVariants as readings
 
 -- what any session allows: longer messages (RFC 8654) and ROUTE-REFRESH (RFC 2918)
 abbrev pub any : Allowed

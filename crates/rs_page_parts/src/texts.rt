@@ -1,12 +1,11 @@
-//! Numbers, addresses, prefixes, times and texts, as pages have them.
+//! Numbers, addresses, prefixes and texts, as pages have them.
 
 ghost use Rattle.std.specs.Prelude.{◌≡◌, ◌++◌, ◌<◌, decimal, OnOk};
 ghost use Rattle.rs_page_parts.specs.Texts.{address_text, prefix_text, is_plain, hex_digit, json_octet, html_octet, json_text, html_text};
 
 use itoa::Buffer;
-use jiff::Timestamp;
 use rs_octets::Prefix;
-use std::alloc::{AllocError, Global};
+use std::alloc::AllocError;
 
 /// Puts a number in decimal.
 pub fn put_number(text: &mut Vec<u8>, number: u64) -> Result<(), AllocError>
@@ -14,19 +13,6 @@ pub fn put_number(text: &mut Vec<u8>, number: u64) -> Result<(), AllocError>
 {
     let mut digits = Buffer::new();
     text.extend_from_slice(digits.format(number).as_bytes())
-}
-
-/// Puts so many microseconds, in seconds: `0.002500`.
-pub(crate) fn put_seconds(text: &mut Vec<u8>, micros: u64) -> Result<(), AllocError> {
-    put_number(text, micros / 1_000_000)?;
-    text.extend_from_slice(b".")?;
-    // A one stands before the six digits, so that none is left out.
-    let mut digits = Buffer::new();
-    let padded = digits.format(1_000_000 + micros % 1_000_000).as_bytes();
-    match padded.split_first() {
-        Some((_, fraction)) => text.extend_from_slice(fraction),
-        None => Ok(()),
-    }
 }
 
 /// Puts an address, `192.0.2.1`.
@@ -52,18 +38,6 @@ pub fn put_prefix(text: &mut Vec<u8>, prefix: &Prefix) -> Result<(), AllocError>
     put_address(text, prefix.bits())?;
     text.extend_from_slice(b"/")?;
     put_number(text, u64::from(prefix.len()))
-}
-
-/// Puts the time of day at so many seconds since 1970-01-01T00:00:00Z, as RFC 3339 has it; the seconds
-/// where there is no such time.
-pub(crate) fn put_time(text: &mut Vec<u8>, alloc: Global, seconds: u64) -> Result<(), AllocError> {
-    match i64::try_from(seconds).map(Timestamp::from_second) {
-        Ok(Ok(time)) => {
-            let written = format!(in alloc; "{time}")?;
-            text.extend_from_slice(written.as_bytes())
-        }
-        _ => put_number(text, seconds),
-    }
 }
 
 /// An octet stands for itself in a string of JSON and in HTML alike.
@@ -132,7 +106,7 @@ pub fn put_json(text: &mut Vec<u8>, octets: &[u8]) -> Result<(), AllocError>
 }
 
 /// Puts octets as text or an attribute's value of HTML: what is not plain as a reference to its number.
-pub(crate) fn put_html(text: &mut Vec<u8>, octets: &[u8]) -> Result<(), AllocError>
+pub fn put_html(text: &mut Vec<u8>, octets: &[u8]) -> Result<(), AllocError>
     ensures { OnOk result (text.new.items ≡ text.old.items ++ html_text octets.now) }
 {
     let mut rest = octets;
@@ -144,7 +118,7 @@ pub(crate) fn put_html(text: &mut Vec<u8>, octets: &[u8]) -> Result<(), AllocErr
 }
 
 /// Puts a 32-bit number as `0x` and hexadecimal digits.
-pub(crate) fn put_hex(text: &mut Vec<u8>, number: u32) -> Result<(), AllocError> {
+pub fn put_hex(text: &mut Vec<u8>, number: u32) -> Result<(), AllocError> {
     text.extend_from_slice(b"0x")?;
     for octet in number.to_be_bytes() {
         text.push(hex_digit(octet / 16))?;

@@ -280,7 +280,7 @@ impl View {
     }
 
     /// The page of this member, of which nothing was written: from this number on, and so many items.
-    pub(crate) fn page(self, place: usize, at: u64, left: u32) -> Page {
+    pub fn page(self, place: usize, at: u64, left: u32) -> Page {
         Page {
             which: self.at(Stage::Head),
             kind: self.kind(),

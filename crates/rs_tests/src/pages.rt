@@ -1,4 +1,4 @@
-//! Tests of `rs_pages` and `rs_page_parts`: pages over tables in memory, piece by piece.
+//! Tests of `rs_pages`, `rs_page_rows` and `rs_page_parts`: pages over tables in memory, piece by piece.
 
 mod counted;
 mod prefixes;
@@ -13,8 +13,8 @@ use rs_octets::Prefix;
 use rs_open::Limit;
 use rs_outlet::Speech;
 use rs_page_parts::keys::key;
-use rs_page_parts::moments::{Changes, Moments};
 use rs_page_parts::tables::{Ended, Faults, Holder, Rib, Tables};
+use rs_page_rows::moments::{Changes, Moments};
 use rs_pages::server_pages::ServerPages;
 use rs_policy::Config;
 use rs_window::page::{Page, Pages, Piece};

@@ -7,9 +7,10 @@ use crate::counting::is_preferred;
 use crate::server_pages::ServerPages;
 use crate::server_pages::course::{behind_count, comma, counting};
 use rs_octets::Prefix;
-use rs_page_parts::members::{Member, imported, member_at, put_counts, put_protocol};
+use rs_page_parts::members::{Member, member_at, put_counts};
 use rs_page_parts::tables::{Rib, Tables};
 use rs_page_parts::views::{Stage, View};
+use rs_page_rows::members::{imported, put_protocol};
 use rs_window::page::Page;
 use std::alloc::AllocError;
 

@@ -2,8 +2,8 @@
 
 use crate::common::{equals, is_of};
 use crate::pages::{let_go, says_times, server};
-use rs_page_parts::counts::traffic::Traffic;
-use rs_page_parts::counts::{Counts, Direction};
+use rs_page_parts::traffic::Traffic;
+use rs_page_rows::counts::{Counts, Direction};
 use std::process::Abort;
 
 /// OPEN, KEEPALIVE, UPDATE without routes, UPDATE that withdraws 192.0.2.0/24, KEEPALIVE, and the first UPDATE again
