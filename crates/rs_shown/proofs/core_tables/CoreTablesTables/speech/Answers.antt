@@ -1,4 +1,4 @@
-use Rattle.std.proofs.Common.{arith, sym, ◌∙◌}
+use Rattle.std.proofs.Common.{arith, ◌∙◌}
 use Rattle.rs_session.specs.Sessions.{agreed_of}
 use Rattle.rs_core.specs.Run.Moves.{config_in}
 use Rattle.rs_core.specs.Run.Meaning.{hearing}
