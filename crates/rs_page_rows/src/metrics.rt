@@ -246,7 +246,7 @@ fn put_routes<T: Tables>(text: &mut Vec<u8>, tables: &T) -> Result<(), AllocErro
     put_gauge(
         text,
         b"rs_attribute_sets",
-        b"The sets of attributes of these routes, one of each UPDATE.",
+        b"The sets of attributes of these routes, equal ones as one.",
         tables.attribute_sets() as u64,
     )
 }
