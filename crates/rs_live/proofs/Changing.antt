@@ -1,6 +1,6 @@
 -- What each client has, and how far the round has come, one operation later.
 use Rattle.std.proofs.Common.{◌≡◌, ◌≢◌, ◌<◌, ◌≤◌, ◌==◌, inl, inr, ℕ, suc, zero, Bool, true, false, List, [], ◌∷◌, length, Option, Some, None, refl, sym, subst, ap, ◌∙◌, arith}
-use Rattle.std.specs.Prelude.{IsSome, ⊤, if◌then◌else◌}
+use Rattle.std.specs.Prelude.{IsSome, IsTrue, ⊤, if◌then◌else◌}
 use Rattle.std.proofs.lemmas.Bool.{cases_eq, cases_lt, false≢true}
 use Rattle.std.proofs.lemmas.Bool.Decides.{nat_tests}
 use Rattle.std.proofs.lemmas.List.{get_or-set_same, get_or-set_other, length-set}
@@ -29,6 +29,10 @@ at_same d c x y e = let is : (d == c) ≡ true = grind (arith, nat_tests, e) in 
 -- and where they are two
 pub at_other : {X : Type 0} (d c : ℕ) (x y : X) → d ≢ c → (if d == c then x else y) ≡ y
 at_other d c x y ne = let is : (d == c) ≡ false = grind (arith, nat_tests, ne) in ap (λ t. if t then x else y) is
+
+pub none_unless : (is_some : Bool) (key : Option ℕ) → (IsSome key → IsTrue is_some) → is_some ≡ false → key ≡ None
+none_unless is_some None has not = refl
+none_unless is_some (Some k) has not = absurd (let f : true ≡ false = sym (has refl) ∙ not in cc)
 
 pub no_some : (key : Option ℕ) → key ≡ None → IsSome key → ⊥
 no_some key none some = false≢true (subst (λ k. IsSome k) none some)

@@ -1,10 +1,10 @@
 -- What each client has, where one place is written.
-use Rattle.std.proofs.Common.{◌≡◌, ◌≤◌, ◌<◌, Bool, ℕ, zero, suc, List, [], ◌∷◌, length, set, Option, Some, refl, sym, subst, ap, ◌∙◌, arith}
+use Rattle.std.proofs.Common.{◌≡◌, ◌≤◌, ◌<◌, Bool, ℕ, zero, suc, List, [], ◌∷◌, ◌++◌, length, set, Option, Some, None, refl, sym, subst, ap, ◌∙◌, arith}
 use Rattle.std.proofs.lemmas.List.{length-set}
 use Rattle.std.specs.Prelude.{slice_get}
 use Rattle.rs_live.specs.declared.connections.ClientConnections.{ClientConnections}
 use Rattle.rs_live.specs.declared.live_link.Phase.{Phase}
-use Rattle.rs_live.specs.Keeping.{Held, IsFairBy, change, held_by, held_in, held_of}
+use Rattle.rs_live.specs.Keeping.{Held, IsFairBy, change, held_by, held_in, held_of, nothing}
 
 abbrev pub holds : Option ℕ → List ℕ → Option ℕ → List ℕ → Bool → Held
 holds key waiting rest_key rest is_down = record { key = key; waiting = waiting; rest_key = rest_key; rest = rest; is_down = is_down }
@@ -62,6 +62,19 @@ pub held_there : (connections : List ClientConnections) (c : ℕ) (own : ClientC
 held_there [] c own e = cc
 held_there (s ∷ connections) zero own e = let i : s ≡ own = cc in ap held_in i
 held_there (s ∷ connections) (suc c) own e = held_there connections c own e
+
+-- a place more, where nothing is
+pub nothing_more : (connections : List ClientConnections) (own : ClientConnections) → held_in own ≡ nothing → ((c : ℕ) → held_by c (held_of connections) ≡ nothing) → (c : ℕ) → held_by c (held_of (connections ++ own ∷ [])) ≡ nothing
+nothing_more [] own is none zero = is
+nothing_more [] own is none (suc c) = refl
+nothing_more (s ∷ connections) own is none zero = none zero
+nothing_more (s ∷ connections) own is none (suc c) = nothing_more connections own is (λ d. none (suc d)) c
+
+-- a client that is not there has no connection
+pub none_past : (connections : List ClientConnections) (c : ℕ) → length connections ≤ c → (held_by c (held_of connections)).key ≡ None
+none_past [] c past = refl
+none_past (s ∷ connections) zero past = absurd (omega (arith, past))
+none_past (s ∷ connections) (suc c) past = none_past connections c (omega (arith, past))
 
 pub held_count : (connections : List ClientConnections) → length (held_of connections) ≡ length connections
 held_count [] = refl

@@ -31,7 +31,7 @@ abbrev pub IsLossOf : ℕ → Step → Type 0
 IsLossOf c (Happened event octets) = event ≡ Lost c
 IsLossOf c (Begin d) = ⊥
 IsLossOf c (Busy d) = ⊥
-IsLossOf c (Offer d octets answer) = (d ≡ c) × (answer ≡ None)
+IsLossOf c (Offer d octets answer) = ⊥
 IsLossOf c (Memory d) = ⊥
 IsLossOf c (End d) = ⊥
 IsLossOf c (Replaced answer) = ⊥
@@ -69,7 +69,8 @@ IsNoLoss (Replaced answer) = ⊤
 --
 -- Each write is of all that waits for a client, under the key of its connection; or of all the rest, under the key of the
 -- connection that it had when its session ended, which is closed at once where such a write fails. An offer to a client that has no
--- connection takes nothing. No connection is closed but as these sentences say.
+-- connection takes nothing; of one to a client for which nothing waits some is taken. No connection is closed but as these sentences
+-- say.
 --
 -- Of each order to disable a client, with its text, and to refresh one the core was told at once; for one to reload, the text of the
 -- rules was asked for at once. The core is told of no other command than, where the server was ordered to end, to stop a client,
@@ -95,7 +96,7 @@ pub data AreHandled : List Operation → Type 0 where
   Times : (t : ℕ) (octets : List ℕ) (operations : List Operation) → IsFair t operations → AreHandled operations → AreHandled (Did (Happened (Moment t) octets) ∷ operations)
   Loses : (c key : ℕ) (step : Step) (operations : List Operation) → key_of c operations ≡ Some key → IsLossOf c step → AreHandled operations → AreHandled (Did step ∷ Asked (Closed key) ∷ Asked (Printed (lines.Lost c)) ∷ operations)
   Fails : (c key : ℕ) (call : Call) (step : Step) (operations : List Operation) → key_of c operations ≡ Some key → FindsLost key call → IsLossOf c step → AreHandled operations → AreHandled (Did step ∷ Asked (Closed key) ∷ Asked (Printed (lines.Lost c)) ∷ Asked call ∷ operations)
-  Takes : (c n : ℕ) (octets : List ℕ) (operations : List Operation) → (key_of c operations ≡ None → n ≡ 0) → AreHandled operations → AreHandled (Did (Offer c octets (Some n)) ∷ operations)
+  Takes : (c n : ℕ) (octets : List ℕ) (operations : List Operation) → (key_of c operations ≡ None → n ≡ 0) → (IsSome (key_of c operations) → waiting c operations ≡ [] → n ≡ 0 → octets ≡ []) → AreHandled operations → AreHandled (Did (Offer c octets (Some n)) ∷ operations)
   Sends : (c key : ℕ) (answer : Result (Option ℕ) PortFault) (operations : List Operation) → key_of c operations ≡ Some key → IsOk answer → AreHandled operations → AreHandled (WroteTo c key (waiting c operations) answer ∷ operations)
   Breaks : (c key : ℕ) (fault : PortFault) (step : Step) (operations : List Operation) → key_of c operations ≡ Some key → IsLossOf c step → AreHandled operations → AreHandled (Did step ∷ Asked (Closed key) ∷ Asked (Printed (lines.Lost c)) ∷ WroteTo c key (waiting c operations) (Err fault) ∷ operations)
   SendsRest : (c key : ℕ) (answer : Result (Option ℕ) PortFault) (operations : List Operation) → rest_key c operations ≡ Some key → IsOk answer → AreHandled operations → AreHandled (WroteRest c key (rest c operations) answer ∷ operations)

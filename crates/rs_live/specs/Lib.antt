@@ -1,3 +1,4 @@
+pub mod Boxes
 pub mod Calls
 pub mod Operations
 pub mod Orders

@@ -113,6 +113,7 @@ impl Connection {
     /// until all before them is written.
     pub fn offer(&mut self, octets: &[u8], now: u64) -> usize
         ensures count { result ≤ length octets.now }
+        ensures some { self.old.out ≡ [] → result ≡ 0 → octets.now ≡ [] }
         ensures key { self.new.key ≡ self.old.key }
         ensures behind { self.new.out ≡ self.old.out ++ take result octets.now }
     {

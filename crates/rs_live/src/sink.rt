@@ -52,10 +52,13 @@ impl<'a, P: Ports> LiveLink<'a, P> {
         ensures count { result ≤ length octets.now }
         ensures kept { Keeps P.asked self.old → KeepsAfter P.asked (Offer c octets.now (Some result)) self.new }
     {
-        match self.connections.get_mut(c) {
-            Some(own) if own.live.is_open() => own.live.offer(octets, self.phase.told),
-            _ => 0,
+        let Some(own) = self.connections.get_mut(c) else {
+            return 0;
+        };
+        if !own.live.is_open() {
+            return 0;
         }
+        own.live.offer(octets, self.phase.told)
     }
 
     /// The connection of a client goes where one that is being closed has its place; an earlier one

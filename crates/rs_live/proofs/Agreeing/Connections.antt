@@ -31,7 +31,7 @@ lost_changes : (c : ℕ) (step : Step) (operations : List Operation) → IsLossO
 lost_changes c (Happened event octets) operations is = subst (λ e. IsQuiet (Happened e octets) × IsChange (with_live None []) c operations (Did (Happened e octets) ∷ operations)) (sym is) (tt, (λ d. if_lost (d == c) (had_by d operations), λ d. refl))
 lost_changes c (Begin d) operations is = absurd is
 lost_changes c (Busy d) operations is = absurd is
-lost_changes c (Offer d octets answer) operations is = subst (λ e. IsQuiet (Offer e octets answer) × IsChange (with_live None []) c operations (Did (Offer e octets answer) ∷ operations)) (sym is.0) (subst (λ a. IsQuiet (Offer c octets a) × IsChange (with_live None []) c operations (Did (Offer c octets a) ∷ operations)) (sym is.1) (tt, (λ d. if_lost (d == c) (had_by d operations), λ d. refl)))
+lost_changes c (Offer d octets answer) operations is = absurd is
 lost_changes c (Memory d) operations is = absurd is
 lost_changes c (End d) operations is = absurd is
 lost_changes c (Replaced answer) operations is = absurd is

@@ -20,9 +20,9 @@ use Rattle.rs_live.proofs.Handling.Calls.{AsksMore, AsksTwo, so, did, more, two_
 use Rattle.rs_live.proofs.Handling.Connections.{lost_so}
 
 -- an offer takes some octets
-pub takes : {P : Type 0} (asked : P → List Call → Type 0) (held : List Held) (phase : Phase) (c n : ℕ) (octets : List ℕ) (p : P) → (length held ≤ c → take n octets ≡ []) → ((held_by c held).key ≡ None → n ≡ 0) → Has asked p (AreKept held phase) → Has asked p (λ operations. AreKept (change c (handed_more (take n octets)) held) phase (Did (Offer c octets (Some n)) ∷ operations))
-takes asked held phase c n octets p past none h = did asked (AreKept held phase) (AreKept (change c (handed_more (take n octets)) held) phase) p (Offer c octets (Some n))
-    (λ operations k. (Takes c n octets operations (λ e. none (sym (ap (λ x. x.key) (k.1.same c)) ∙ e)) k.0, agrees_offer held phase c n octets operations past k.1)) h
+pub takes : {P : Type 0} (asked : P → List Call → Type 0) (held : List Held) (phase : Phase) (c n : ℕ) (octets : List ℕ) (p : P) → (length held ≤ c → take n octets ≡ []) → ((held_by c held).key ≡ None → n ≡ 0) → (IsSome (held_by c held).key → (held_by c held).waiting ≡ [] → n ≡ 0 → octets ≡ []) → Has asked p (AreKept held phase) → Has asked p (λ operations. AreKept (change c (handed_more (take n octets)) held) phase (Did (Offer c octets (Some n)) ∷ operations))
+takes asked held phase c n octets p past none some h = did asked (AreKept held phase) (AreKept (change c (handed_more (take n octets)) held) phase) p (Offer c octets (Some n))
+    (λ operations k. (Takes c n octets operations (λ e. none (sym (ap (λ x. x.key) (k.1.same c)) ∙ e)) (λ has waits. some (subst (λ o. IsSome o) (ap (λ x. x.key) (k.1.same c)) has) (sym (ap (λ x. x.waiting) (k.1.same c)) ∙ waits)) k.0, agrees_offer held phase c n octets operations past k.1)) h
 
 -- operations after which this waits, whose calls are these
 pub record Done (cs : List Call) (Is : List Operation → Type 0) : Type 0 where
@@ -156,18 +156,18 @@ waits_written asked held phase c key now_key first now a b e o same sent h =
     so asked (AreKept (change c (waits_so w.0) held) phase) (AreKept (change c (with_live now_key now) held) phase) b (λ operations k. subst (λ x. AreKept (set held c x) phase operations) at k) w.1.1
 
 -- more waits than did
-pub takes_more : {P : Type 0} (asked : P → List Call → Type 0) (held : List Held) (phase : Phase) (c n : ℕ) (octets : List ℕ) (key now_key : Option ℕ) (first now : List ℕ) (p : P) → c < length held → (held_by c held).key ≡ key → (held_by c held).waiting ≡ first → now_key ≡ key → IsSome key → now ≡ first ++ take n octets → Has asked p (AreKept held phase) → Has asked p (λ operations. AreKept (change c (with_live now_key now) held) phase (Did (Offer c octets (Some n)) ∷ operations))
-takes_more asked held phase c n octets key now_key first now p below e o same some rest h =
+pub takes_more : {P : Type 0} (asked : P → List Call → Type 0) (held : List Held) (phase : Phase) (c n : ℕ) (octets : List ℕ) (key now_key : Option ℕ) (first now : List ℕ) (p : P) → c < length held → (held_by c held).key ≡ key → (held_by c held).waiting ≡ first → now_key ≡ key → IsSome key → now ≡ first ++ take n octets → (first ≡ [] → n ≡ 0 → octets ≡ []) → Has asked p (AreKept held phase) → Has asked p (λ operations. AreKept (change c (with_live now_key now) held) phase (Did (Offer c octets (Some n)) ∷ operations))
+takes_more asked held phase c n octets key now_key first now p below e o same some rest progress h =
     let at : handed_more (take n octets) (held_by c held) ≡ with_live now_key now (held_by c held) = ap (λ k. with_live k ((held_by c held).waiting ++ take n octets) (held_by c held)) (e ∙ sym same) ∙ ap (λ w. with_live now_key w (held_by c held)) (ap (λ w. w ++ take n octets) o ∙ sym rest) in
     subst (λ x. Has asked p (λ operations. AreKept (set held c x) phase (Did (Offer c octets (Some n)) ∷ operations))) at
-    (takes asked held phase c n octets p (λ ge. absurd (omega (arith, ge, below))) (λ none. absurd (no_some key (sym e ∙ none) some)) h)
+    (takes asked held phase c n octets p (λ ge. absurd (omega (arith, ge, below))) (λ none. absurd (no_some key (sym e ∙ none) some)) (λ has waits. progress (sym o ∙ waits)) h)
 
--- an offer that takes nothing
-pub takes_none : {P : Type 0} (asked : P → List Call → Type 0) (held : List Held) (phase : Phase) (c : ℕ) (octets : List ℕ) (p : P) → Has asked p (AreKept held phase) → Has asked p (λ operations. AreKept held phase (Did (Offer c octets (Some 0)) ∷ operations))
-takes_none asked held phase c octets p h =
+-- an offer to a client that has no connection takes nothing
+pub takes_none : {P : Type 0} (asked : P → List Call → Type 0) (held : List Held) (phase : Phase) (c : ℕ) (octets : List ℕ) (p : P) → (held_by c held).key ≡ None → Has asked p (AreKept held phase) → Has asked p (λ operations. AreKept held phase (Did (Offer c octets (Some 0)) ∷ operations))
+takes_none asked held phase c octets p none h =
     let same : change c (handed_more []) held ≡ held = unchanged (handed_more []) held c (ap (λ o. with_live (held_by c held).key o (held_by c held)) (append-nil (held_by c held).waiting)) in
     so asked (λ operations. AreKept (change c (handed_more []) held) phase (Did (Offer c octets (Some 0)) ∷ operations)) (λ operations. AreKept held phase (Did (Offer c octets (Some 0)) ∷ operations)) p (λ operations k. subst (λ hs. AreKept hs phase (Did (Offer c octets (Some 0)) ∷ operations)) same k)
-    (takes asked held phase c 0 octets p (λ ge. refl) (λ none. refl) h)
+    (takes asked held phase c 0 octets p (λ ge. refl) (λ is. refl) (λ has. absurd (no_some (held_by c held).key none has)) h)
 
 -- and at once where a write of the rest failed
 pub drops : {P : Type 0} (asked : P → List Call → Type 0) (held : List Held) (phase : Phase) (c k : ℕ) (key now_key : Option ℕ) (first now : List ℕ) (a m b : P) (was : List ℕ) → (held_by c held).rest_key ≡ key → (held_by c held).rest ≡ first → ((cs : List Call) → asked a cs → Broke asked k key cs first m was) → AsksMore asked m (Closed k) b → now_key ≡ None → now ≡ [] → Has asked a (AreKept held phase) → Has asked b (AreKept (change c (with_rest now_key now) held) phase)
