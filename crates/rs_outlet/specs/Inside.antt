@@ -166,11 +166,11 @@ IsBacked rows p (due.Announced number hash) = IsRowOf rows number p hash
 abbrev pub AreBacked : List (Option Row) → List Wait → Type 0
 AreBacked rows ws = (q : Prefix) (w : Wait) → open_at q ws ≡ Some w → IsBacked rows w.prefix w.due
 
--- between a slot and the one that it leads to, none that waits has its hash and the attributes that are due at it
+-- between a slot that waits and the one that it leads to, none that waits has its hash and the attributes that are due at it
 abbrev pub AreChained : List (Option Row) → List Wait → List ℕ → Type 0
 AreChained rows ws chains =
     (n m chain hash : ℕ) (w z : Wait) (a : List Attribute) → slice_get chains n ≡ Some chain → slice_get ws n ≡ Some w → slice_get ws m ≡ Some z
-    → n < m → m < chain → z.open ≡ true → hash_of w.due ≡ Some hash → hash_of z.due ≡ Some hash
+    → n < m → m < chain → w.open ≡ true → z.open ≡ true → hash_of w.due ≡ Some hash → hash_of z.due ≡ Some hash
     → shown (row_by rows w.due) ≡ Some a → shown (row_by rows z.due) ≢ Some a
 
 -- a message to the client has room for these attributes beside this prefix

@@ -113,6 +113,7 @@ fn carry_out(rows: &mut Rows, waits: &mut Waits, fresh: &mut Vec<Wait>, change: 
     ensures others { (n : ℕ) → n ≢ change.number → row_at rows.new.rows.items n ≡ row_at rows.old.rows.items n }
     ensures fit { (speech : Speech) → IfSome change.due (λ attrs. FitsAlone speech change.prefix (arc_value attrs)) → RowsFit speech rows.old.rows.items → RowsFit speech rows.new.rows.items }
     ensures waits { IsCarriedOut change (attributes_at rows.old.rows.items change.number) rows.new.rows.items waits.old.slots.items fresh.old.items waits.new.slots.items fresh.new.items }
+    ensures chained { AreBacked rows.old.rows.items waits.old.slots.items → AreChained rows.old.rows.items (take waits.old.sorted waits.old.slots.items) waits.old.chains.items → AreChained rows.new.rows.items (take waits.new.sorted waits.new.slots.items) waits.new.chains.items }
     ensures count { open_count waits.new.slots.items ≤ open_count waits.old.slots.items }
     ensures most { rows.new.used + (withdrawn_count waits.new.slots.items + withdrawn_count fresh.new.items) ≤ rows.old.used + (withdrawn_count waits.old.slots.items + withdrawn_count fresh.old.items) + 1 }
     ensures capacity { vec_capacity waits.new.slots ≡ vec_capacity waits.old.slots }
@@ -182,7 +183,7 @@ pub(crate) fn commit(rows: &mut Rows, waits: &mut Waits, changes: Vec<Change>, m
     ensures loc { (ins : AdjIns) (due : Prefix → Option (List Attribute)) → ArePlaced changes.items ins → AreDue due changes.items → HaveNumbers (numbers_from 0 rows.old.rows.items) ins → (q : Prefix) → fin.get (loc_of rows.new.rows.items) q ≡ (if is_changed changes.items q then due q else fin.get (loc_of rows.old.rows.items) q) }
     ensures numbered { (ins : AdjIns) → ArePlaced changes.items ins → HaveNumbers (numbers_from 0 rows.old.rows.items) ins → HaveNumbers (numbers_from 0 rows.new.rows.items) ins }
     ensures none { changes.items ≡ [] → (rows.new ≡ rows.old) × (waits.new ≡ waits.old) }
-    ensures chained { AreChained rows.old.rows.items (take waits.old.sorted waits.old.slots.items) waits.old.chains.items → AreChained rows.new.rows.items (take waits.new.sorted waits.new.slots.items) waits.new.chains.items }
+    ensures chained { AreBacked rows.old.rows.items waits.old.slots.items → AreChained rows.old.rows.items (take waits.old.sorted waits.old.slots.items) waits.old.chains.items → AreChained rows.new.rows.items (take waits.new.sorted waits.new.slots.items) waits.new.chains.items }
     ensures backed { AreBacked rows.old.rows.items waits.old.slots.items → AreBacked rows.new.rows.items waits.new.slots.items }
     ensures fit { (speech : Speech) → ChangesFit speech changes.items → RowsFit speech rows.old.rows.items → RowsFit speech rows.new.rows.items }
     ensures keeps { (ins : AdjIns) → ArePlaced changes.items ins → HaveNumbers (numbers_from 0 rows.old.rows.items) ins → (q : Prefix) → Keeps (open_at q waits.old.slots.items) (fin.get (loc_of rows.old.rows.items) q) (open_at q waits.new.slots.items) (fin.get (loc_of rows.new.rows.items) q) }

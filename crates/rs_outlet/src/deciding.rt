@@ -30,6 +30,22 @@ pub(crate) struct Sources<'a> {
     pub(crate) client: usize,
 }
 
+/// What one decision of a turn leaves to the next: room for ranks, and the last attributes that rules made.
+#[derive(Drop)]
+pub(crate) struct Drafts {
+    ranks: Vec<Rank>,
+    stripped: Option<Arc<Attrs>>,
+}
+
+impl Drafts {
+    pub(crate) fn new(alloc: Global) -> Drafts {
+        Drafts {
+            ranks: Vec::new(alloc),
+            stripped: None,
+        }
+    }
+}
+
 /// A route as it is passed on: as its sender announced it, or without what the rules take out of it.
 #[derive(Drop)]
 pub(crate) enum Passed<'a> {
@@ -132,12 +148,32 @@ fn rank_all(
     Ok(())
 }
 
+/// An owner of attributes that rules made: where the last ones are equal, of these. So routes that one UPDATE
+/// announced, which are decided one after the other, share one copy.
+fn share(
+    alloc: Global,
+    rest: Attrs,
+    last: &mut Option<Arc<Attrs>>,
+) -> Result<Arc<Attrs>, AllocError>
+    ensures { IfOk result (λ attrs. arc_value attrs ≡ rest) }
+{
+    if let Some(same) = last {
+        if **same == rest {
+            return same.clone();
+        }
+    }
+    let made = Arc::new(alloc, rest)?;
+    *last = Some(made.clone()?);
+    Ok(made)
+}
+
 /// The route as it is passed on.
 fn pass_on<'a>(
     alloc: Global,
     sources: &Sources<'_>,
     prefix: &Prefix,
     holder: &Holder<'a>,
+    last: &mut Option<Arc<Attrs>>,
 ) -> Result<Option<Passed<'a>>, AllocError>
     requires client { sources.now.client < length sources.now.config.now.clients }
     requires known { holder.now.client < length sources.now.config.now.clients }
@@ -156,7 +192,7 @@ fn pass_on<'a>(
         Fate::Pass { strip, .. } => {
             if strip.changes(holder.attrs) {
                 let rest = stripped(alloc, holder.attrs, &strip)?;
-                Ok(Some(Passed::Stripped(Arc::new(alloc, rest)?)))
+                Ok(Some(Passed::Stripped(share(alloc, rest, last)?)))
             } else {
                 Ok(Some(Passed::Whole(holder.attrs)))
             }
@@ -182,13 +218,14 @@ fn pass_fitting<'a>(
     speech: Speech,
     prefix: &Prefix,
     holder: &Holder<'a>,
+    last: &mut Option<Arc<Attrs>>,
 ) -> Result<Option<Passed<'a>>, AllocError>
     requires client { sources.now.client < length sources.now.config.now.clients }
     requires known { holder.now.client < length sources.now.config.now.clients }
     requires noted { holder.now.note ≡ note_of_import sources.now.config.now holder.now.client prefix.now (arc_value holder.now.attrs.now) }
     ensures { IfOk result (λ due. option_map attributes_passed due ≡ passed_fitting (held_by sources.now) sources.now.client speech prefix.now (holder.now.client, arc_value holder.now.attrs.now)) }
 {
-    match pass_on(alloc, sources, prefix, holder)? {
+    match pass_on(alloc, sources, prefix, holder, last)? {
         None => Ok(None),
         Some(passed) => Ok(if_fits(speech, prefix, passed)),
     }
@@ -201,6 +238,7 @@ fn decide_alone<'a>(
     speech: Speech,
     prefix: &Prefix,
     holder: &Holder<'a>,
+    last: &mut Option<Arc<Attrs>>,
 ) -> Result<Option<Passed<'a>>, AllocError>
     requires client { sources.now.client < length sources.now.config.now.clients }
     requires known { holder.now.client < length sources.now.config.now.clients }
@@ -210,7 +248,7 @@ fn decide_alone<'a>(
     if is_kept_back(sources, holder) {
         return Ok(None);
     }
-    pass_fitting(alloc, sources, speech, prefix, holder)
+    pass_fitting(alloc, sources, speech, prefix, holder, last)
 }
 
 /// What is due where these clients hold the prefix: the best of the candidates. Only the ranks of the
@@ -222,7 +260,7 @@ fn decide_among<'a>(
     number: u32,
     prefix: &Prefix,
     holders: Holders<'a>,
-    ranks: &mut Vec<Rank>,
+    drafts: &mut Drafts,
 ) -> Result<Option<Passed<'a>>, AllocError>
     requires number { number_of sources.now.ins.now prefix.now ≡ Some number }
     requires holders { ListsHolders sources.now.ins.now prefix.now (map (λ h. h.0) holders) }
@@ -230,17 +268,24 @@ fn decide_among<'a>(
     requires notes { All (λ h. h.1 ≡ note_of_import sources.now.config.now h.0.0 prefix.now h.0.1) holders }
     ensures { IfOk result (λ due. option_map attributes_passed due ≡ due_to (held_by sources.now) sources.now.client speech prefix.now) }
 {
-    rank_all(sources, prefix, holders, ranks)?;
-    let Some(index) = best(ranks) else {
+    rank_all(sources, prefix, holders, &mut drafts.ranks)?;
+    let Some(index) = best(&drafts.ranks) else {
         return Ok(None);
     };
-    let Some(rank) = ranks.get(index) else {
+    let Some(rank) = drafts.ranks.get(index) else {
         return Ok(None);
     };
     let Some(holder) = sources.ins.noted_at(rank.place, number) else {
         return Ok(None);
     };
-    pass_fitting(alloc, sources, speech, prefix, &holder)
+    pass_fitting(
+        alloc,
+        sources,
+        speech,
+        prefix,
+        &holder,
+        &mut drafts.stripped,
+    )
 }
 
 /// What is due to the client at a prefix: the best of the candidates, as it is passed on, where it fits.
@@ -250,7 +295,7 @@ pub(crate) fn decide<'a>(
     speech: Speech,
     number: u32,
     prefix: &Prefix,
-    ranks: &mut Vec<Rank>,
+    drafts: &mut Drafts,
 ) -> Result<Option<Passed<'a>>, AllocError>
     requires number { number_of sources.now.ins.now prefix.now ≡ Some number }
     requires server { AreOfOneServer sources.now }
@@ -258,10 +303,17 @@ pub(crate) fn decide<'a>(
 {
     let mut holders = sources.ins.at_number(number);
     if holders.len() != 1 {
-        return decide_among(alloc, sources, speech, number, prefix, holders, ranks);
+        return decide_among(alloc, sources, speech, number, prefix, holders, drafts);
     }
     match holders.next() {
         None => Ok(None),
-        Some(holder) => decide_alone(alloc, sources, speech, prefix, &holder),
+        Some(holder) => decide_alone(
+            alloc,
+            sources,
+            speech,
+            prefix,
+            &holder,
+            &mut drafts.stripped,
+        ),
     }
 }

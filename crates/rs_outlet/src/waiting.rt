@@ -193,6 +193,7 @@ impl Waits {
         ensures told { option_map arc_value result.0 ≡ told_by (open_at prefix.now self.old.slots.items) (option_map arc_value was_due) }
         ensures marked { result.1 ≡ marked_by (open_at prefix.now self.old.slots.items) }
         ensures slots { (q : Prefix) → open_at q self.new.slots.items ≡ (if eq_by_cmp prefix_order q prefix.now then None else open_at q self.old.slots.items) }
+        ensures chained { (rows : List (Option Row)) → AreChained rows (take self.old.sorted self.old.slots.items) self.old.chains.items → AreChained rows (take self.new.sorted self.new.slots.items) self.new.chains.items }
         ensures count { open_count self.new.slots.items ≤ open_count self.old.slots.items }
         ensures withdrawn { withdrawn_count self.new.slots.items ≤ withdrawn_count self.old.slots.items }
         ensures capacity { vec_capacity self.new.slots ≡ vec_capacity self.old.slots }

@@ -1,6 +1,6 @@
 -- Each slot to be announced has the row of its prefix, and each row fits: what a written row and a change leave of that.
 use Rattle.std.proofs.Common.{◌≡◌, ◌≢◌, ◌<◌, ℕ, Bool, true, false, cond, ◌&&◌, Option, None, Some, List, [], ◌∷◌, ◌++◌, length, slice_set, inl, inr, refl, sym, ap, ◌∙◌, subst, arith, nat_eq}
-use Rattle.std.specs.Prelude.{◌≤◌, IfSome, nat_le, option_and_then, option_map}
+use Rattle.std.specs.Prelude.{◌≤◌, IfSome, nat_le, option_and_then, option_map, slice_get, take}
 use mathlib.Core.Bool.{true≢false}
 use Rattle.std.specs.Arc.{arc_value}
 use Rattle.std.specs.List.{AllByRecursion, list_any}
@@ -21,11 +21,13 @@ use Rattle.rs_outlet.specs.declared.rows.Row.{Row}
 use Rattle.rs_outlet.specs.declared.waiting.Due.{Due}
 use Rattle.rs_outlet.specs.declared.waiting.Due.TheVariants as due
 use Rattle.rs_outlet.specs.declared.waiting.Wait.{Wait}
-use Rattle.rs_outlet.specs.Inside.{AreBacked, AreDue, AreOwn, ChangesFit, FitsAlone, IsBacked, IsOwn, IsRowOf, RowsFit, joined, numbers_of, prefix_and_hash, row_at}
+use Rattle.rs_outlet.specs.Inside.{AreBacked, AreChained, AreDue, AreOwn, ChangesFit, FitsAlone, IsBacked, IsOwn, IsRowOf, RowsFit, joined, numbers_of, prefix_and_hash, row_at, row_by, shown}
 use Rattle.rs_outlet.specs.Pending.Owed.{IsCarriedOut, IsOpenAt}
-use Rattle.rs_outlet.specs.Pending.Slots.{open_at, prefixes_at}
-use Rattle.rs_outlet.proofs.Pending.Adding.{not_listed}
+use Rattle.rs_outlet.specs.Pending.Slots.{AreApart, open_at, prefixes_at}
+use Rattle.rs_outlet.proofs.Pending.Adding.{first_of_two, not_listed, open_both}
+use Rattle.rs_outlet.proofs.Pending.Apart.{found_apart}
 use Rattle.rs_outlet.proofs.Pending.Carrying.{apart, here}
+use Rattle.rs_outlet.proofs.Pending.TwoParts.{front_get}
 use Rattle.rs_outlet.proofs.Decided.LocByNumber.{same, same_is, same_itself}
 
 -- ---- a row written
@@ -69,12 +71,17 @@ has_prefix : (o : Option Row) (p : Prefix) (hash : ℕ) → option_map prefix_an
 has_prefix None p hash is = absurd (cc)
 has_prefix (Some r) p hash is = (r, refl, ap (λ (e : Prefix × ℕ). e.0) (same_Some (prefix_and_hash r) (p, hash) is))
 
+-- what is due at another prefix has the row that it had
+kept_row : (rows rows' : List (Option Row)) (c p : Prefix) (n : ℕ) (d : Due) → IsOwn (row_at rows n) c → ((m : ℕ) → m ≢ n → row_at rows' m ≡ row_at rows m) → (p ≡ c → ⊥) → IsBacked rows p d → row_by rows' d ≡ row_by rows d
+kept_row rows rows' c p n due.Withdrawn own others ne is = refl
+kept_row rows rows' c p n (due.Announced number hash) own others ne is = elim (cases_eq number n) [
+  | inl e ↦ let r = has_prefix (row_at rows number) p hash is in absurd (ne (sym r.2 ∙ own r.0 (ap (row_at rows) (sym e) ∙ r.1)))
+  | inr apart_from ↦ others number apart_from
+]
+
 elsewhere : (rows rows' : List (Option Row)) (c p : Prefix) (n : ℕ) (d : Due) → IsOwn (row_at rows n) c → ((m : ℕ) → m ≢ n → row_at rows' m ≡ row_at rows m) → (p ≡ c → ⊥) → IsBacked rows p d → IsBacked rows' p d
 elsewhere rows rows' c p n due.Withdrawn own others ne is = tt
-elsewhere rows rows' c p n (due.Announced number hash) own others ne is = elim (cases_eq number n) [
-  | inl e ↦ let r = has_prefix (row_at rows number) p hash is in absurd (ne (sym r.2 ∙ own r.0 (ap (row_at rows) (sym e) ∙ r.1)))
-  | inr apart_from ↦ ap (option_map prefix_and_hash) (others number apart_from) ∙ is
-]
+elsewhere rows rows' c p n (due.Announced number hash) own others ne is = ap (option_map prefix_and_hash) (kept_row rows rows' c p n (due.Announced number hash) own others ne is) ∙ is
 
 waited_backed : (rows : List (Option Row)) (o : Option Wait) (w : Wait) → o ≡ Some w → IfSome o (λ v. IsBacked rows v.prefix v.due) → IsBacked rows w.prefix w.due
 waited_backed rows None w e is = absurd (cc)
@@ -113,6 +120,36 @@ own_rest c (d ∷ rest) rows rows' others apart_from own = (
 pub own_same : (cs : List Change) (rows rows' : List (Option Row)) → ((n : ℕ) → row_at rows' n ≡ row_at rows n) → AreOwn cs rows → AreOwn cs rows'
 own_same [] rows rows' same_rows own = tt
 own_same (c ∷ cs) rows rows' same_rows own = (λ r is. own.0 r (sym (same_rows c.number) ∙ is), own_same cs rows rows' same_rows own.1)
+
+-- ---- chains, where the row of a prefix that doesn't wait is written
+
+-- the first slots have their rows
+pub front_backed : (rows : List (Option Row)) (ws fs : List Wait) → AreBacked rows (ws ++ fs) → AreBacked rows ws
+front_backed rows ws fs are q w is = are q w (open_both q ws fs ∙ ap (λ o. first_of_two o (open_at q fs)) is)
+
+-- where one prefix waits no more, the others have theirs
+pub closed_backed : (rows : List (Option Row)) (ws ws' : List Wait) (p : Prefix) → ((q : Prefix) → open_at q ws' ≡ cond (same q p) None (open_at q ws)) → AreBacked rows ws → AreBacked rows ws'
+closed_backed rows ws ws' p closed are q w is = go (same q p) (sym (closed q) ∙ is)
+  where
+    go : (b : Bool) → cond b None (open_at q ws) ≡ Some w → IsBacked rows w.prefix w.due
+    go true e = absurd (let f : ◌≡◌ {A = Option Wait} None (Some w) = e in cc)
+    go false e = are q w e
+
+module _ (rows rows' : List (Option Row)) (ws : List Wait) (n : ℕ) (p : Prefix) (apart_slots : AreApart ws) (backed : AreBacked rows ws) (own : IsOwn (row_at rows n) p) (none : open_at p ws ≡ None) (others : (m : ℕ) → m ≢ n → row_at rows' m ≡ row_at rows m) where
+  -- a slot that waits has the row that it had
+  waiting_row : (i : ℕ) (w : Wait) → slice_get ws i ≡ Some w → w.open ≡ true → row_by rows' w.due ≡ row_by rows w.due
+  waiting_row i w at opened =
+      let stands : open_at w.prefix ws ≡ Some w = found_apart ws i w apart_slots at opened in
+      kept_row rows rows' p w.prefix n w.due own others
+      (λ e. absurd (let f : ◌≡◌ {A = Option Wait} None (Some w) = sym none ∙ ap (λ q. open_at q ws) (sym e) ∙ stands in cc))
+      (backed w.prefix w stands)
+
+  -- so chains of the first part stay what they are
+  pub written_chained : (k : ℕ) (chains : List ℕ) → AreChained rows (take k ws) chains → AreChained rows' (take k ws) chains
+  written_chained k chains are i m chain hash w z a at from to later below waits opened w_hash z_hash is = λ e.
+      let w_row = waiting_row i w (front_get k i ws w from) waits in
+      let z_row = waiting_row m z (front_get k m ws z to) opened in
+      are i m chain hash w z a at from to later below waits opened w_hash z_hash (ap shown (sym w_row) ∙ is) (ap shown (sym z_row) ∙ e)
 
 -- ---- what is due fits
 

@@ -34,13 +34,10 @@ past chain zero h = cc
 past chain (suc n) h = cc
 
 pub none_chained : (rows : List (Option Row)) (ws : List Wait) (chains : List ℕ) → chains ≡ [] → AreChained rows ws chains
-none_chained rows ws chains none n m chain hash w z a at from to later below opened here there is = absurd (past chain n (sym (ap (λ ls. slice_get ls n) none) ∙ at))
+none_chained rows ws chains none n m chain hash w z a at from to later below waits opened here there is = absurd (past chain n (sym (ap (λ ls. slice_get ls n) none) ∙ at))
 
 pub none_by_hash : (ws : List Wait) (chains : List ℕ) → chains ≡ [] → AreByHash ws chains
 none_by_hash ws chains none n m chain hash w z at from to later below opened here there = past chain n (sym (ap (λ ls. slice_get ls n) none) ∙ at)
-
-pub by_hash_chained : (rows : List (Option Row)) (ws : List Wait) (chains : List ℕ) → AreByHash ws chains → AreChained rows ws chains
-by_hash_chained rows ws chains are n m chain hash w z a at from to later below opened here there is = absurd (are n m chain hash w z at from to later below opened here there)
 
 pub same_by_hash : (ws ws' : List Wait) (chains chains' : List ℕ) → ws' ≡ ws → chains' ≡ chains → AreByHash ws chains → AreByHash ws' chains'
 same_by_hash ws ws' chains chains' slots same are = subst (AreByHash ws') (sym same) (subst (λ vs. AreByHash vs chains) (sym slots) are)
@@ -50,15 +47,15 @@ same_row_by rows rows' same_rows due.Withdrawn = refl
 same_row_by rows rows' same_rows (due.Announced number hash) = same_rows number
 
 pub same_chained : (rows rows' : List (Option Row)) (ws ws' : List Wait) (chains chains' : List ℕ) → ((n : ℕ) → row_at rows' n ≡ row_at rows n) → ws' ≡ ws → chains' ≡ chains → AreChained rows ws chains → AreChained rows' ws' chains'
-same_chained rows rows' ws ws' chains chains' same_rows slots same are n m chain hash w z a at from to later below opened here there is =
+same_chained rows rows' ws ws' chains chains' same_rows slots same are n m chain hash w z a at from to later below waits opened here there is =
     λ e.
-    are n m chain hash w z a (ap (λ ls. slice_get ls n) (sym same) ∙ at) (ap (λ vs. slice_get vs n) (sym slots) ∙ from) (ap (λ vs. slice_get vs m) (sym slots) ∙ to) later below opened here there
+    are n m chain hash w z a (ap (λ ls. slice_get ls n) (sym same) ∙ at) (ap (λ vs. slice_get vs n) (sym slots) ∙ from) (ap (λ vs. slice_get vs m) (sym slots) ∙ to) later below waits opened here there
     (ap shown (sym (same_row_by rows rows' same_rows w.due)) ∙ is)
     (ap shown (sym (same_row_by rows rows' same_rows z.due)) ∙ e)
 
 -- one slot waits no more
-pub shut_chained : (rows : List (Option Row)) (ws : List Wait) (n : ℕ) (x y : Wait) (chains : List ℕ) → slice_get ws n ≡ Some x → y.due ≡ x.due → y.open ≡ false → AreChained rows ws chains → AreChained rows (slice_set ws n y) chains
-shut_chained rows ws n x y chains here due shut are k m chain hash w z a at from to later below opened w_hash z_hash is = elim (cases_eq m n) [
+pub shut_chained : (rows : List (Option Row)) (ws : List Wait) (n : ℕ) (x y : Wait) (chains : List ℕ) → slice_get ws n ≡ Some x → y.open ≡ false → AreChained rows ws chains → AreChained rows (slice_set ws n y) chains
+shut_chained rows ws n x y chains here shut are k m chain hash w z a at from to later below waits opened w_hash z_hash is = elim (cases_eq m n) [
   | inl e ↦
       let same : y ≡ z = same_Some y z (sym (set_here ws n y x here) ∙ sym (ap (slice_get (slice_set ws n y)) e) ∙ to) in
       absurd (let f : true ≡ false = sym opened ∙ ap (λ (v : Wait). v.open) (sym same) ∙ shut in cc)
@@ -67,8 +64,8 @@ shut_chained rows ws n x y chains here due shut are k m chain hash w z a at from
       elim (cases_eq k n) [
         | inl e ↦
             let same : y ≡ w = same_Some y w (sym (set_here ws n y x here) ∙ sym (ap (slice_get (slice_set ws n y)) e) ∙ from) in
-            are k m chain hash x z a at (ap (slice_get ws) e ∙ here) there later below opened (ap hash_of (sym due ∙ ap (λ (v : Wait). v.due) same) ∙ w_hash) z_hash (ap (λ d. shown (row_by rows d)) (sym due ∙ ap (λ (v : Wait). v.due) same) ∙ is)
-        | inr apart ↦ are k m chain hash w z a at (sym (set_apart ws n y k apart) ∙ from) there later below opened w_hash z_hash is
+            absurd (let f : true ≡ false = sym waits ∙ ap (λ (v : Wait). v.open) (sym same) ∙ shut in cc)
+        | inr apart ↦ are k m chain hash w z a at (sym (set_apart ws n y k apart) ∙ from) there later below waits opened w_hash z_hash is
       ]
 ]
 
@@ -124,9 +121,9 @@ first_shut_by_hash k ws n x y chains here due shut are = elim (cases_lt n k) [
   | inr beyond ↦ subst (λ vs. AreByHash vs chains) (sym (take_beyond k n ws y beyond)) are
 ]
 
-pub first_shut_chained : (rows : List (Option Row)) (k : ℕ) (ws : List Wait) (n : ℕ) (x y : Wait) (chains : List ℕ) → slice_get ws n ≡ Some x → y.due ≡ x.due → y.open ≡ false → AreChained rows (take k ws) chains → AreChained rows (take k (slice_set ws n y)) chains
-first_shut_chained rows k ws n x y chains here due shut are = elim (cases_lt n k) [
-  | inl within ↦ subst (λ vs. AreChained rows vs chains) (sym (take_write k n ws y)) (shut_chained rows (take k ws) n x y chains (first_get k n ws x within here) due shut are)
+pub first_shut_chained : (rows : List (Option Row)) (k : ℕ) (ws : List Wait) (n : ℕ) (x y : Wait) (chains : List ℕ) → slice_get ws n ≡ Some x → y.open ≡ false → AreChained rows (take k ws) chains → AreChained rows (take k (slice_set ws n y)) chains
+first_shut_chained rows k ws n x y chains here shut are = elim (cases_lt n k) [
+  | inl within ↦ subst (λ vs. AreChained rows vs chains) (sym (take_write k n ws y)) (shut_chained rows (take k ws) n x y chains (first_get k n ws x within here) shut are)
   | inr beyond ↦ subst (λ vs. AreChained rows vs chains) (sym (take_beyond k n ws y beyond)) are
 ]
 
@@ -239,12 +236,12 @@ backed_hash rows p (due.Announced number hash) m backed is = ap (λ h. Some h) (
 -- between a slot of a message's hash and the one that it leads to, none waits for the message's attributes
 pub none_between : (rows : List (Option Row)) (ws : List Wait) (chains : List ℕ) (m : List Attribute) (exact has : Bool) → AreChained rows ws chains → (exact ≡ false → AreByHash ws chains) → (exact && not has) ≡ false
     → (i n chain : ℕ) (w z : Wait) → slice_get chains i ≡ Some chain → slice_get ws i ≡ Some w → slice_get ws n ≡ Some z → i < n → n < chain → hash_of w.due ≡ Some (attributes_hash m)
-    → (has ≡ true → shown (row_by rows w.due) ≡ Some m) → (z.open ≡ true → IsBacked rows z.prefix z.due) → shares rows m z ≡ false
+    → (has ≡ true → (w.open ≡ true) × (shown (row_by rows w.due) ≡ Some m)) → (z.open ≡ true → IsBacked rows z.prefix z.due) → shares rows m z ≡ false
 none_between rows ws chains m exact has chained by_hash one i n chain w z at from to later below w_hash is backed =
     shares_other rows m z (λ opened also. go exact has chained by_hash one is opened (backed_hash rows z.prefix z.due m (backed opened) also) also)
   where
-    go : (exact has : Bool) → AreChained rows ws chains → (exact ≡ false → AreByHash ws chains) → (exact && not has) ≡ false → (has ≡ true → shown (row_by rows w.due) ≡ Some m) → z.open ≡ true → hash_of z.due ≡ Some (attributes_hash m) → shown (row_by rows z.due) ≡ Some m → ⊥
-    go exact true chained by_hash one is opened z_hash also = chained i n chain (attributes_hash m) w z m at from to later below opened w_hash z_hash (is refl) also
+    go : (exact has : Bool) → AreChained rows ws chains → (exact ≡ false → AreByHash ws chains) → (exact && not has) ≡ false → (has ≡ true → (w.open ≡ true) × (shown (row_by rows w.due) ≡ Some m)) → z.open ≡ true → hash_of z.due ≡ Some (attributes_hash m) → shown (row_by rows z.due) ≡ Some m → ⊥
+    go exact true chained by_hash one is opened z_hash also = chained i n chain (attributes_hash m) w z m at from to later below (is refl).0 opened w_hash z_hash (is refl).1 also
     go false false chained by_hash one is opened z_hash also = by_hash refl i n chain (attributes_hash m) w z at from to later below opened w_hash z_hash
     go true false chained by_hash one is opened z_hash also = absurd (cc)
 
@@ -293,7 +290,7 @@ module _ (exact : Bool) (set_of : List Attribute → Option ℕ) (rows : List (O
           absurd (omega (arith, most, below))
 
   pub linked_chained : (es : List Keyed) (chains : List ℕ) → AreKeyed exact set_of rows ws (length ws) es → AreInOrder (due_by exact rows ws) es (length es) → AreLinked (due_by exact rows ws) es chains → AreChained rows ws chains
-  linked_chained es chains keyed rise linked n m chain hash w z a at from to later below opened w_hash z_hash is = λ also.
+  linked_chained es chains keyed rise linked n m chain hash w z a at from to later below waits opened w_hash z_hash is = λ also.
       let same : shown (row_by rows w.due) ≡ shown (row_by rows z.due) = is ∙ sym also in
       let alike : key_at exact set_of rows w hash ≡ key_at exact set_of rows z hash = ap (λ o. key_by exact set_of (or_none o) hash) same in
       let e : Keyed = record { key = key_at exact set_of rows w hash; slot = n } in

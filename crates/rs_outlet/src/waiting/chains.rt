@@ -339,7 +339,7 @@ impl Waits {
         requires { slot < self.now.sorted }
         ensures later { slot < result }
         ensures within { result ≤ self.now.sorted }
-        ensures between { (rows : List (Option Row)) (m : List Attribute) → AreChained rows (take self.now.sorted self.now.slots.items) self.now.chains.items → AreBacked rows self.now.slots.items → attributes_hash m ≡ hash → (IsTrue has → HoldsAt (λ w. shown (row_by rows w.due) ≡ Some m) self.now.slots.items slot) → (n : ℕ) (z : Wait) → slice_get self.now.slots.items n ≡ Some z → slot < n → n < result → shares rows m z ≡ false }
+        ensures between { (rows : List (Option Row)) (m : List Attribute) → AreChained rows (take self.now.sorted self.now.slots.items) self.now.chains.items → AreBacked rows self.now.slots.items → attributes_hash m ≡ hash → (IsTrue has → HoldsAt (λ w. (w.open ≡ true) × (shown (row_by rows w.due) ≡ Some m)) self.now.slots.items slot) → (n : ℕ) (z : Wait) → slice_get self.now.slots.items n ≡ Some z → slot < n → n < result → shares rows m z ≡ false }
     {
         if self.exact && !has {
             return slot + 1;

@@ -185,7 +185,7 @@ impl Waits {
         front: &mut Vec<Prefix>,
     ) -> bool
         requires { slot < vec_len self.now.slots }
-        ensures waits { IsTrue result → HoldsAt (λ w. shown (row_by rows.now.rows.items w.due) ≡ Some attrs.now) self.now.slots.items slot }
+        ensures waits { IsTrue result → HoldsAt (λ w. (w.open ≡ true) × (shown (row_by rows.now.rows.items w.due) ≡ Some attrs.now)) self.now.slots.items slot }
         ensures chosen { vec_capacity chosen.new ≡ vec_capacity chosen.old }
         ensures front { vec_capacity front.new ≡ vec_capacity front.old }
         ensures are { AreChosen rows.now.rows.items self.now.slots.items (Some attrs.now) chosen.old.items front.old.items → AreChosen rows.now.rows.items self.now.slots.items (Some attrs.now) chosen.new.items front.new.items }

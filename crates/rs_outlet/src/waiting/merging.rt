@@ -42,10 +42,9 @@ impl Waits {
         ensures slots { (q : Prefix) → open_at q self.new.slots.items ≡ open_at q (self.old.slots.items ++ more.items) }
         ensures withdrawn { withdrawn_count self.new.slots.items ≤ withdrawn_count self.old.slots.items + withdrawn_count more.items }
         ensures capacity { vec_capacity self.new.slots ≡ vec_capacity self.old.slots }
-        ensures chained { (rows : List (Option Row)) → AreChained rows (take self.new.sorted self.new.slots.items) self.new.chains.items }
+        ensures chained { (rows : List (Option Row)) → AreChained rows (take self.old.sorted self.old.slots.items) self.old.chains.items → AreChained rows (take self.new.sorted self.new.slots.items) self.new.chains.items }
     {
         self.make_room(more.len());
-        self.drop_exact_chains();
         self.add_late(more);
     }
 
@@ -56,6 +55,7 @@ impl Waits {
         ensures slots { (q : Prefix) → open_at q self.new.slots.items ≡ open_at q self.old.slots.items }
         ensures withdrawn { withdrawn_count self.new.slots.items ≡ withdrawn_count self.old.slots.items }
         ensures capacity { vec_capacity self.new.slots ≡ vec_capacity self.old.slots }
+        ensures chained { (rows : List (Option Row)) → AreChained rows (take self.old.sorted self.old.slots.items) self.old.chains.items → AreChained rows (take self.new.sorted self.new.slots.items) self.new.chains.items }
     {
         if !self.is_crowded(more) {
             return;
@@ -70,6 +70,7 @@ impl Waits {
     /// Gives back the memory that slots took, where there are none. There is still room for as many.
     fn give_back(&mut self)
         ensures slots { self.new.slots.items ≡ self.old.slots.items }
+        ensures chains { self.old.chains.items ≡ [] → self.new.chains.items ≡ [] }
         ensures capacity { vec_capacity self.new.slots ≡ vec_capacity self.old.slots }
     {
         if !self.slots.is_empty() {
@@ -90,17 +91,6 @@ impl Waits {
         }
         let late = self.slots.len() - self.sorted;
         self.waiting == 0 || self.sorted.saturating_mul(LATE) < late.saturating_mul(late)
-    }
-
-    /// Drops chains that were made by attributes: other rows may stand by now at slots that wait no more.
-    fn drop_exact_chains(&mut self)
-        ensures slots { self.new.slots.items ≡ self.old.slots.items }
-        ensures capacity { vec_capacity self.new.slots ≡ vec_capacity self.old.slots }
-        ensures chained { (rows : List (Option Row)) → AreChained rows (take self.new.sorted self.new.slots.items) self.new.chains.items }
-    {
-        if self.exact {
-            self.chains.clear();
-        }
     }
 
     /// Adds slots to the late part, for which there is room. The first part and its chains stay.

@@ -4,9 +4,10 @@ use Rattle.std.specs.Arc.{arc_value}
 use Rattle.std.proofs.lemmas.Option.{same_Some}
 use Rattle.rs_outlet.specs.Views.{HaveNumbers}
 use Rattle.rs_outlet.specs.Inside.{FitsAlone, RowsFit, numbers_from, loc_of, prefix_and_hash, row_at}
-use Rattle.rs_outlet.proofs.Pending.Backing.{announced_backed, fit_set, other_row, this_row}
+use Rattle.rs_outlet.proofs.Pending.Backing.{announced_backed, closed_backed, fit_set, other_row, this_row, written_chained}
 use Rattle.rs_outlet.proofs.Decided.Numbering.{numbers_write, numbers_erase}
-use Rattle.rs_outlet.proofs.Decided.LocByNumber.{same, numbered, loc_set}
+use Rattle.rs_outlet.proofs.Decided.LocByNumber.{same, same_itself, numbered, loc_set}
+use Rattle.rs_outlet.specs.Pending.Slots.{open_at}
 use Rattle.rs_outlet.proofs.OneOf.{cond_twice}
 use Rattle.rs_adjin.specs.AdjIns.{number_of}
 use Rattle.rs_outlet.specs.declared.rows.Row.{Row}
@@ -87,6 +88,32 @@ returns-in-Some-clause-fit c = λ speech new fit.
     subst (RowsFit speech) (sym c.put.ensures.rows)
     (fit_set mid n _ speech again (λ r e. subst (λ (t : Row). FitsAlone speech t.prefix (arc_value t.attrs)) (same_Some _ r e) due)
     (subst (RowsFit speech) (sym c.take-was.ensures.rows) (fit_set rows n None speech below (λ r e. absurd (let f : None ≡ Some r = e in cc)) fit)))
+
+pub returns-in-None-clause-chained : goal.returns-in-None-clause-chained
+returns-in-None-clause-chained c = λ backed chained.
+    let rows = c.args.rows.now.rows.items in
+    let n = c.args.change.number in
+    let p = c.args.change.prefix in
+    let waits = c.take_told-told.new.self in
+    let closed = c.take_told-told.ensures.slots in
+    written_chained rows c.take-was.new.self.rows.items waits.slots.items n p waits.apart (closed_backed rows c.args.waits.now.slots.items waits.slots.items p closed backed)
+    c.requires.own (closed p ∙ ap (λ b. cond b None (open_at p c.args.waits.now.slots.items)) (same_itself p))
+    (λ m ne. ap (λ xs. row_at xs m) c.take-was.ensures.rows ∙ other_row rows n None m ne)
+    waits.sorted waits.chains.items (c.take_told-told.ensures.chained rows chained)
+
+pub returns-in-Some-clause-chained : goal.returns-in-Some-clause-chained
+returns-in-Some-clause-chained c = λ backed chained.
+    let rows = c.args.rows.now.rows.items in
+    let n = c.args.change.number in
+    let p = c.args.change.prefix in
+    let waits = c.take_told-told.new.self in
+    let closed = c.take_told-told.ensures.slots in
+    written_chained rows c.put.new.self.rows.items waits.slots.items n p waits.apart (closed_backed rows c.args.waits.now.slots.items waits.slots.items p closed backed)
+    c.requires.own (closed p ∙ ap (λ b. cond b None (open_at p c.args.waits.now.slots.items)) (same_itself p))
+    (λ m ne.
+    ap (λ xs. row_at xs m) c.put.ensures.rows ∙ other_row c.take-was.new.self.rows.items n _ m ne
+    ∙ ap (λ xs. row_at xs m) c.take-was.ensures.rows ∙ other_row rows n None m ne)
+    waits.sorted waits.chains.items (c.take_told-told.ensures.chained rows chained)
 
 pub returns-in-Some-clause-waits : goal.returns-in-Some-clause-waits
 returns-in-Some-clause-waits c =

@@ -6,7 +6,7 @@ use Rattle.std.proofs.lemmas.Bool.Decides.{nat_tests}
 use Rattle.std.proofs.lemmas.Map.Keys.{IsDistinct-head, IsDistinct-tail}
 use Rattle.rs_adjin.specs.AdjIns.{number_of}
 use Rattle.rs_outlet.specs.Inside.{AreDue, AreOwn, ArePlaced, ChangesFit, HaveRows, is_changed, loc_of, numbers_of}
-use Rattle.rs_outlet.proofs.Pending.Backing.{are_backed_same, backed_step, own_rest}
+use Rattle.rs_outlet.proofs.Pending.Backing.{are_backed_same, backed_step, front_backed, own_rest}
 use Rattle.rs_outlet.specs.Pending.Slots.{prefixes_at, withdrawn_count}
 use Rattle.rs_outlet.specs.Pending.Owed.{prefixes_of}
 use Rattle.rs_outlet.proofs.Pending.Carrying.{fresh_step, keeps_both, keeps_same, keeps_step, length_step, none_fresh, none_more, none_unlisted, unlisted_rest, unlisted_step}
@@ -36,6 +36,7 @@ loop-change-init c =
       numbers = subst (λ cs. IsDistinct nat_eq (numbers_of cs)) (sym are) c.requires.numbers;
       own = subst (λ cs. AreOwn cs c.args.rows.now.rows.items) (sym are) c.requires.own;
       backed = λ backed. are_backed_same _ _ _ _ (λ n. refl) (ap (λ fs. c.args.waits.now.slots.items ++ fs) none ∙ all_nil c.args.waits.now.slots.items) backed;
+      chained = λ _ chained. chained;
       fits = λ speech fits. subst (ChangesFit speech) (sym are) fits;
       fit = λ speech fits fit. fit;
       unlisted = none_unlisted c.args.fresh.items _ none;
@@ -78,6 +79,7 @@ loop-change-preserved c =
       numbers = IsDistinct-tail nat_eq x.number (numbers_of rest) numbers;
       own = own_rest x rest was _ c.carry_out.ensures.others (IsDistinct-head nat_eq x.number (numbers_of rest) numbers) own.1;
       backed = λ backed. backed_step x _ was _ _ _ _ _ carried own.0 c.carry_out.ensures.others unlisted.0 (inv.backed backed);
+      chained = λ backed chained. c.carry_out.ensures.chained (front_backed was c.loop-change.waits.slots.items fs (inv.backed backed)) (inv.chained backed chained);
       fits = λ speech fits. (subst (ChangesFit speech) are (inv.fits speech fits)).1;
       fit = λ speech fits fit. c.carry_out.ensures.fit speech ((subst (ChangesFit speech) are (inv.fits speech fits)).0) (inv.fit speech fits fit);
       unlisted = unlisted_rest x rest fs c.carry_out.new.fresh.items (unlisted_step x _ _ _ fs _ _ carried) (IsDistinct-head same x.prefix (prefixes_of rest) once) unlisted.1;
@@ -100,7 +102,7 @@ pub returns-clause-none : goal.returns-clause-none
 returns-clause-none c = λ none. absurd (grind (arith, nat_tests, ap length none, c.args.changes.ok, c.is_empty.ensures, c.if-is_empty.false))
 
 pub returns-clause-chained : goal.returns-clause-chained
-returns-clause-chained c = λ _. c.add.ensures.chained c.loop-change.rows.rows.items
+returns-clause-chained c = λ backed chained. c.add.ensures.chained c.loop-change.rows.rows.items (c.loop-change.invariant.chained backed chained)
 
 pub returns-clause-loc : goal.returns-clause-loc
 returns-clause-loc c = λ ins due p d h q.

@@ -1,4 +1,4 @@
-use Rattle.std.proofs.Common.{◌≡◌, ◌≤◌, ◌+◌, false, nat_eq, cond, Option, List, length, vec_len, ◌++◌}
+use Rattle.std.proofs.Common.{◌≡◌, ◌≤◌, ◌+◌, false, nat_eq, cond, Option, List, length, take, vec_len, ◌++◌}
 use Rattle.std.specs.FinMap as fin
 use Rattle.std.specs.List.{AllByRecursion, IsDistinct, list_any}
 use Rattle.std.specs.Vec.{vec_capacity}
@@ -10,7 +10,7 @@ use Rattle.rs_outlet.specs.Views.{HaveNumbers}
 use Rattle.rs_outlet.specs.Pending.Slots.{AreFresh, open_at, open_count, prefixes_at, withdrawn_count}
 use Rattle.rs_outlet.specs.Pending.Owed.{Keeps, prefixes_of}
 use Rattle.rs_outlet.specs.declared.answers.Speech.{Speech}
-use Rattle.rs_outlet.specs.Inside.{AreBacked, AreDue, AreOwn, ArePlaced, ChangesFit, HaveRows, RowsFit, is_changed, numbers_from, numbers_of, loc_of}
+use Rattle.rs_outlet.specs.Inside.{AreBacked, AreChained, AreDue, AreOwn, ArePlaced, ChangesFit, HaveRows, RowsFit, is_changed, numbers_from, numbers_of, loc_of}
 use Rattle.rs_outlet.proofs.Decided.LocByNumber.{same}
 use Rattle.rs_outlet.proofs.changes.commit.Given as goal
 
@@ -33,6 +33,7 @@ invariant-loop-change l = record {
   numbers : IsDistinct nat_eq (numbers_of (into_iter_items l.change-iterator));
   own : AreOwn (into_iter_items l.change-iterator) l.rows.rows.items;
   backed : AreBacked l.fn.rows.rows.items l.fn.waits.slots.items → AreBacked l.rows.rows.items (l.waits.slots.items ++ l.fresh.items);
+  chained : AreBacked l.fn.rows.rows.items l.fn.waits.slots.items → AreChained l.fn.rows.rows.items (take l.fn.waits.sorted l.fn.waits.slots.items) l.fn.waits.chains.items → AreChained l.rows.rows.items (take l.waits.sorted l.waits.slots.items) l.waits.chains.items;
   fits : (speech : Speech) → ChangesFit speech l.fn.changes.items → ChangesFit speech (into_iter_items l.change-iterator);
   fit : (speech : Speech) → ChangesFit speech l.fn.changes.items → RowsFit speech l.fn.rows.rows.items → RowsFit speech l.rows.rows.items;
   unlisted : AllByRecursion (λ q. list_any (same q) (prefixes_at l.fresh.items) ≡ false) (prefixes_of (into_iter_items l.change-iterator));

@@ -13,8 +13,8 @@ use Rattle.rs_outlet.proofs.waiting.Waits.list_announced.Goals as goal
 
 pub returns-clause-waits : goal.returns-clause-waits
 returns-clause-waits c = λ _.
-    at_slot (λ (w : Wait). shown (row_by c.args.rows.now.rows.items w.due) ≡ Some c.args.attrs.now) c.args.self.now.slots.items c.args.slot c.index-wait.result.now (search rules) c.index-wait.ensures
-    (c.waits_for.ensures.due c.if-not-waits_for.false)
+    at_slot (λ (w : Wait). (w.open ≡ true) × (shown (row_by c.args.rows.now.rows.items w.due) ≡ Some c.args.attrs.now)) c.args.self.now.slots.items c.args.slot c.index-wait.result.now (search rules) c.index-wait.ensures
+    (c.if-not-wait.false, c.waits_for.ensures.due c.if-not-waits_for.false)
 
 pub returns-clause-are : goal.returns-clause-are
 returns-clause-are c = λ are.

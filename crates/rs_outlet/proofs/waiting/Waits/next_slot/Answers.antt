@@ -1,4 +1,4 @@
-use Rattle.std.proofs.Common.{◌≡◌, ◌<◌, ◌∙◌, false, ◌&&◌, not, Some, length, slice_get, take, sym, ap, arith, refl, subst}
+use Rattle.std.proofs.Common.{◌≡◌, ◌<◌, ◌∙◌, false, true, ◌&&◌, not, Some, length, slice_get, take, sym, ap, arith, refl, subst}
 use Rattle.std.proofs.lemmas.Option.{slice_get_read}
 use Rattle.rs_outlet.specs.declared.waiting.Wait.{Wait}
 use Rattle.rs_outlet.specs.Inside.{row_by, shown}
@@ -23,5 +23,5 @@ returns-in-Some-clause-between c = λ rows m chained backed hash has n z here la
     none_between rows (take k ws) c.args.self.now.chains.items m c.args.self.now.exact c.args.has chained c.args.self.now.by_hash one
     i n c.in-Some.chain.now w z (ap (λ ls. slice_get ls i) (sym c.deref.ensures.value) ∙ at) (first_get k i ws w c.requires there) (first_get k n ws z (omega (arith, below, c.min.ensures)) here) later (omega (arith, below, later, c.max.ensures, c.min.ensures))
     (c.has_hash.ensures.due c.if-not-has_hash.false ∙ ap (λ h. Some h) (sym hash))
-    (λ is. subst (λ (v : Wait). shown (row_by rows v.due) ≡ Some m) (sym c.index.ensures) (has is w))
+    (λ is. subst (λ (v : Wait). (v.open ≡ true) × (shown (row_by rows v.due) ≡ Some m)) (sym c.index.ensures) (has is w))
     (λ opened. backed z.prefix z (found_apart ws n z c.args.self.now.apart here opened))
