@@ -1,8 +1,8 @@
 #!/usr/bin/env python3
 """The gate: every proof from nothing, then the recorded sessions on the programs that came of it.
 
-Runs `rt ci` at the top of the repository and passes on what it prints. Meanwhile it looks, twice a
-second, at the processes of the prover and of the compilers; from that it prints how long each crate's
+Runs `rt ci` at the top of the repository and passes on what it prints. Meanwhile it looks, every two
+seconds, at the processes of the prover and of the compilers; from that it prints how long each crate's
 proofs, tests and edits took. Then it plays each session of examples/sessions to the built rs_replay, and two members to the
 built rs_served, records one and plays the record, and gives it configurations to check. It holds what the members of these sessions are sent against the plain
 function of the tests: of their fronts, with losses, cut and changed octets, refused memory and without threads, and of random
@@ -45,7 +45,7 @@ from results import tell
 TOP = pathlib.Path(__file__).resolve().parent.parent
 # The rows of hostile members that are played, in small sizes.
 HOSTILE = "abcdegn"
-PAUSE = 0.5
+PAUSE = 2
 TICK = os.sysconf("SC_CLK_TCK")
 KINDS = ("proofs", "tests", "edits")
 
@@ -98,7 +98,7 @@ def look(gate, tasks, seconds):
 
 
 def watch(gate, over, tasks, seconds):
-    """Looks again and again, until it is over."""
+    """Looks again and again, until it is over: a look takes 17 ms of a processor."""
     while not over.wait(PAUSE):
         look(gate, tasks, seconds)
 
