@@ -15,6 +15,8 @@ from .targets import Exchange
 # Attributes whose octets end a block with this have one sum in the hash by which rs_outlet puts slots in order first, whatever its key.
 CHOSEN = (0x9E3779B97F4A7C15).to_bytes(8, "little")
 ATTACKER = 2
+# A community, and the rules that take it out of each route.
+TAKEN, TAKING = bytes.fromhex("fbf40001"), 'export = [ { action = "pass", strip = ["64500:1"] } ]\n'
 # Prefixes of attackers: the first is out of all honest members' reach.
 FAR = 1_000_000
 
@@ -69,19 +71,19 @@ class Attack:
         return (found[-1][1] - found[0][1]) / max(1, changes)
 
 
-def alike(at, count, chosen=True):
-    """UPDATEs of so many prefixes, each with attributes of its own that share one hash where they are chosen so."""
+def alike(at, count, chosen=True, more=b""):
+    """UPDATEs of so many prefixes, each with attributes of its own that share one hash where they are chosen so, and these communities."""
     path, out = attributes([number(at)], next_hop(at)), []
     for one in range(count):
         value = bytes(5) + (one + 1).to_bytes(8, "little") + (CHOSEN if chosen else bytes(8)) + bytes(19)
-        out.append(update(field=path + attribute(0xC0, 8, value), nlri=slash24(FAR + one)))
+        out.append(update(field=path + attribute(0xC0, 8, value + more), nlri=slash24(FAR + one)))
     return b"".join(out)
 
 
-def come_late(over, say, place, owed, chosen, late, most):
+def come_late(over, say, place, owed, chosen, more, late, most):
     """A member announces such routes; then others come up who are owed them all: how long each waited for them."""
     first = come_up([Member(place, ATTACKER)])[0]
-    first.out += alike(ATTACKER, owed, chosen)
+    first.out += alike(ATTACKER, owed, chosen, more)
     speak([first], most, lambda: not first.out)
     speak([first], 3)
     took = []
@@ -94,12 +96,17 @@ def come_late(over, say, place, owed, chosen, late, most):
     return took
 
 
-def chains(target, routes, late, most, members, base):
-    """Attributes that differ in a harmless way, then those with one hash: the same shall be as fast."""
+def chains(target, routes, late, most, members, base, ruled):
+    """Attributes that differ in a harmless way, then those with one hash: the same shall be as fast. Where wanted, ours plays it also
+    with rules that take a community out of each route, so that what they leave shares one hash."""
     figures, words, spans = {"lost": 0}, [], []
-    for name, chosen in (("plain", False), ("chosen", True)):
-        with Exchange(target, 64) as exchange:
-            seen = Attack(exchange, come_late, (late + 1) * most + 20, members, base, before=2, owed=routes, chosen=chosen, late=late, most=most)
+    plays = [("plain", False, b"", ""), ("chosen", True, b"", "")]
+    if ruled and target.name == "ours":
+        plays += [("plain stripped", False, TAKEN, TAKING), ("chosen stripped", True, TAKEN, TAKING)]
+    for name, chosen, more, rules in plays:
+        with Exchange(target, 64, each=rules) as exchange:
+            lasts = (late + 1) * most + 20
+            seen = Attack(exchange, come_late, lasts, members, base, before=2, owed=routes, chosen=chosen, more=more, late=late, most=most)
         figures[name + " wait"], figures[name + " late"] = max(seen.during), max(seen.seen)
         figures["lost"] += seen.lost
         spans.append((name, seen.first, seen.last))

@@ -31,10 +31,11 @@ def no_session_is_lost(seen, short):
 def chains_cost_nothing(seen, short):
     it = seen["ours"].figures
     more = slack(short)
+    kinds = [kind for kind in ("", " stripped") if f"chosen{kind} wait" in it]
     return missed(
         (it["lost"] == 0, "sessions lost"),
-        (it["chosen wait"] <= 2 * it["plain wait"] + more, "a change waits longer than with other attributes"),
-        (it["chosen late"] <= 2 * it["plain late"] + more, "a late member waits longer than with other attributes"),
+        *((it[f"chosen{kind} wait"] <= 2 * it[f"plain{kind} wait"] + more, "a change waits longer than with other attributes") for kind in kinds),
+        *((it[f"chosen{kind} late"] <= 2 * it[f"plain{kind} late"] + more, "a late member waits longer than with other attributes") for kind in kinds),
     )
 
 
@@ -132,9 +133,10 @@ def signals_are_told(seen, short):
 
 ROWS = (
     Row(
-        "a", "Routes whose attributes share one hash whatever its key; then members come up who are owed them",
+        "a", "Routes whose attributes share one hash whatever its key, also once rules have changed them; then members come up who are owed them",
         "as fast as with other attributes", BOTH, costs.chains,
-        dict(routes=50_000, late=3, most=60, members=10, base=1000), dict(routes=8000, late=1, most=12, members=3, base=300), 640, chains_cost_nothing,
+        dict(routes=50_000, late=3, most=60, members=10, base=1000, ruled=True), dict(routes=8000, late=1, most=12, members=3, base=300, ruled=False), 900,
+        chains_cost_nothing,
     ),
     Row(
         "b", "ROUTE-REFRESH without end, and 178 at once", "others' p99 within twice that without the flood", BOTH, costs.refreshes,
