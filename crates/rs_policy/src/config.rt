@@ -31,11 +31,12 @@ use crate::config::top::{Top, client_tables, list_tables, refuse_other_keys, sha
 use crate::faults::ConfigFault;
 use crate::rules::{Disposition, Rules};
 use std::alloc::Global;
+use std::fmt;
 use std::marker::Model;
 use toml::value::Value;
 
 /// What a route server is configured to do. Clients are numbered from 0 in the order of the configuration.
-#[derive(Debug, Drop)]
+#[derive(Drop)]
 pub struct Config {
     top: Top,
     clients: Vec<Client>,
@@ -54,6 +55,12 @@ impl Model for Config {
     ghost view = { λ c. record { top = c.top; clients = c.clients.items; lists = c.lists.items; shared = c.shared.items; policies = c.policies.items } };
 
     ghost invariant = { λ c. IsRead (record { top = c.top; clients = c.clients.items; lists = c.lists.items; shared = c.shared.items; policies = c.policies.items }) };
+}
+
+impl fmt::Debug for Config {
+    fn fmt<W: fmt::Write>(&self, f: &mut fmt::Formatter<W>) -> fmt::Result {
+        f.debug_struct("Config").finish_non_exhaustive()
+    }
 }
 
 impl Config {

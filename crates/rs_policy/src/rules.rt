@@ -16,14 +16,14 @@ use rs_octets::Prefix;
 use std::marker::Model;
 
 /// Whether a route is passed on or dropped.
-#[derive(Clone, Copy, Debug)]
+#[derive(Clone, Copy)]
 pub(crate) enum Disposition {
     Pass,
     Drop,
 }
 
 /// A part of a community that a rule tests.
-#[derive(Clone, Copy, Debug)]
+#[derive(Clone, Copy)]
 pub(crate) enum Part {
     Number(u32),
     /// Any number.
@@ -33,14 +33,14 @@ pub(crate) enum Part {
 }
 
 /// Which communities (RFC 1997) a rule asks for: the first and the last 16 bits.
-#[derive(Clone, Copy, Debug)]
+#[derive(Clone, Copy)]
 pub(crate) struct CommunityTest {
     pub(crate) high: Part,
     pub(crate) low: Part,
 }
 
 /// Which large communities (RFC 8092) a rule asks for: the Global Administrator and the local data.
-#[derive(Clone, Copy, Debug)]
+#[derive(Clone, Copy)]
 pub(crate) struct LargeCommunityTest {
     pub(crate) global: Part,
     pub(crate) first: Part,
@@ -104,7 +104,7 @@ impl LargeCommunityTest {
 }
 
 /// Patterns of communities or of large communities.
-#[derive(Debug, Drop)]
+#[derive(Drop)]
 pub(crate) struct Patterns<P> {
     patterns: Vec<P>,
 }
@@ -132,7 +132,7 @@ impl<P> Patterns<P> {
 }
 
 /// Which communities, or which large communities, a rule takes away.
-#[derive(Debug, Drop)]
+#[derive(Drop)]
 pub(crate) enum Stripping<P> {
     Named(Patterns<P>),
     All,
@@ -157,14 +157,14 @@ impl<P> Stripping<P> {
 }
 
 /// What a rule does with a route that it matches.
-#[derive(Debug, Drop)]
+#[derive(Drop)]
 pub(crate) enum Action {
     Drop,
     Pass(Option<u32>, Stripping<CommunityPattern>, Stripping<LargeCommunityPattern>),
 }
 
 /// The routes within a prefix whose lengths are from `min` to `max`.
-#[derive(Clone, Copy, Debug)]
+#[derive(Clone, Copy)]
 pub(crate) struct Range {
     pub(crate) prefix: Prefix,
     pub(crate) min: u8,
@@ -172,7 +172,7 @@ pub(crate) struct Range {
 }
 
 /// What a rule asks of the prefix, the sender and the attributes of a route.
-#[derive(Clone, Copy, Debug)]
+#[derive(Clone, Copy)]
 pub(crate) struct Tests {
     /// The place of a list with prefixes, from 0.
     pub(crate) prefix_in: Option<usize>,
@@ -210,7 +210,7 @@ impl Tests {
 }
 
 /// A rule: it matches the routes of its range where all of its tests hold.
-#[derive(Debug, Drop)]
+#[derive(Drop)]
 pub(crate) struct Rule {
     pub(crate) range: Option<Range>,
     pub(crate) tests: Tests,
@@ -218,7 +218,7 @@ pub(crate) struct Rule {
 }
 
 /// What stands at a place of a client's list.
-#[derive(Debug, Drop)]
+#[derive(Drop)]
 pub(crate) enum Item {
     Own(Rule),
     /// The rules of this place, from 0, stand here.

@@ -38,7 +38,12 @@ pub(crate) fn is_longer(value: &Value, most: usize) -> bool
 fn are_tables(values: &[Value]) -> bool
     ensures { result ≡ list_all (λ v. is_table (view v)) values.now }
 {
-    values.iter().all(|value| value.is_table())
+    for value in values {
+        if !value.is_table() {
+            return false;
+        }
+    }
+    true
 }
 
 #[tactic(auto, using(crate::proofs::Reading::Documents::list_all_seen))]
@@ -112,7 +117,12 @@ pub(crate) fn some_tables(
 fn is_among(keys: &[Key], text: &str) -> bool
     ensures { result ≡ is_among keys.now text.now }
 {
-    keys.iter().any(|key| key.text() == text)
+    for key in keys {
+        if key.text() == text {
+            return true;
+        }
+    }
+    false
 }
 
 fn are_among(entries: &Table, keys: &[Key]) -> bool

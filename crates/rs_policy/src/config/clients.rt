@@ -18,7 +18,7 @@ use std::marker::Model;
 use toml::value::Value;
 
 /// A client, but for its rules.
-#[derive(Debug, Drop)]
+#[derive(Drop)]
 pub(crate) struct Client {
     pub(crate) name: String,
     pub(crate) client_as: u32,
@@ -68,7 +68,12 @@ impl Client {
     fn is_among(&self, others: &[Client]) -> bool
         ensures { result ≡ list_any (is_same self.now) others.now }
     {
-        others.iter().any(|other| self.is_same(other))
+        for other in others {
+            if self.is_same(other) {
+                return true;
+            }
+        }
+        false
     }
 
     /// What the table of a client sets, but for its rules, or its first fault.

@@ -30,7 +30,7 @@ use toml::value::Value;
 const MOST: usize = 1_048_576;
 
 /// Ranges of prefixes, as they stand in the text and as they are searched.
-#[derive(Debug, Drop)]
+#[derive(Drop)]
 pub(crate) struct Prefixes {
     ranges: Vec<Range>,
     index: Index,
@@ -49,7 +49,7 @@ impl Model for Prefixes {
 }
 
 /// AS numbers, likewise.
-#[derive(Debug, Drop)]
+#[derive(Drop)]
 pub(crate) struct Ases {
     ranges: Vec<(u32, u32)>,
     index: Index,
@@ -67,7 +67,7 @@ impl Model for Ases {
 }
 
 /// A list that rules name.
-#[derive(Debug, Drop)]
+#[derive(Drop)]
 pub(crate) struct NamedList {
     pub(crate) name: String,
     pub(crate) prefixes: Option<Prefixes>,
@@ -261,7 +261,12 @@ impl NamedList {
     fn is_among(&self, others: &[NamedList]) -> bool
         ensures { result ≡ list_any (is_same_name self.now) others.now }
     {
-        others.iter().any(|other| self.is_same_name(other))
+        for other in others {
+            if self.is_same_name(other) {
+                return true;
+            }
+        }
+        false
     }
 
     /// Whether a range of the list takes the prefix.

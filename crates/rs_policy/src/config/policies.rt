@@ -20,7 +20,7 @@ use std::marker::Model;
 use toml::value::Value;
 
 /// The lists of rules of a client, as they stand in the text.
-#[derive(Debug, Drop)]
+#[derive(Drop)]
 pub(crate) struct Policy {
     pub(crate) import: Vec<Item>,
     pub(crate) export: Vec<Item>,

@@ -57,7 +57,12 @@ impl Kind for PrefixListOf<'_> {
 fn prefix_list_of(lists: &[NamedList], name: &str) -> Option<usize>
     ensures { result ≡ prefixes_named lists.now name.now }
 {
-    lists.iter().position(|list| list.name.as_str() == name && list.prefixes.is_some())
+    for (index, list) in lists.iter().enumerate() {
+        if list.name.as_str() == name && list.prefixes.is_some() {
+            return Some(index);
+        }
+    }
+    None
 }
 
 /// Names of lists with AS numbers, as their places from 0.
@@ -79,9 +84,12 @@ impl Kind for AsListOf<'_> {
 fn as_list_of(lists: &[NamedList], name: &str) -> Option<usize>
     ensures { result ≡ ases_named lists.now name.now }
 {
-    lists
-        .iter()
-        .position(|list| list.name.as_str() == name && list.ases.is_some())
+    for (index, list) in lists.iter().enumerate() {
+        if list.name.as_str() == name && list.ases.is_some() {
+            return Some(index);
+        }
+    }
+    None
 }
 
 /// Names of rules that may stand in a list, as their places from 0.
@@ -105,14 +113,24 @@ impl Kind for SharedOf<'_> {
 fn shared_of(shared: &[SharedRules], receiver: bool, name: &str) -> Option<usize>
     ensures { result ≡ shared_named receiver shared.now name.now }
 {
-    shared.iter().position(|used| used.name.as_str() == name && may_stand(&used.rules, receiver))
+    for (index, used) in shared.iter().enumerate() {
+        if used.name.as_str() == name && may_stand(&used.rules, receiver) {
+            return Some(index);
+        }
+    }
+    None
 }
 
 /// Whether a part of a test of these rules is `peer`.
 fn rules_name_peer(rules: &[Rule]) -> bool
     ensures { result ≡ rules_name_peer rules.now }
 {
-    rules.iter().any(|rule| rule.tests.name_peer())
+    for rule in rules {
+        if rule.tests.name_peer() {
+            return true;
+        }
+    }
+    false
 }
 
 /// Whether these rules may stand in a list that has a receiver or hasn't.
@@ -147,9 +165,12 @@ fn has_receiver(here: Place) -> bool
 pub(crate) fn place_of(clients: &[Client], name: &str) -> Option<usize>
     ensures { result ≡ client_named clients.now name.now }
 {
-    clients
-        .iter()
-        .position(|client| client.name.as_str() == name)
+    for (index, client) in clients.iter().enumerate() {
+        if client.name.as_str() == name {
+            return Some(index);
+        }
+    }
+    None
 }
 
 #[tactic(auto, unfolding(crate::specs::Values::answer, crate::specs::Rules::range_checks, crate::specs::Rules::range_of))]

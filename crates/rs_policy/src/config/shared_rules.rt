@@ -20,7 +20,7 @@ use std::marker::Model;
 use toml::value::Value;
 
 /// Rules that lists of clients use.
-#[derive(Debug, Drop)]
+#[derive(Drop)]
 pub(crate) struct SharedRules {
     pub(crate) name: String,
     pub(crate) rules: Vec<Rule>,
@@ -38,7 +38,12 @@ impl Model for SharedRules {
 fn is_among(name: &str, others: &[SharedRules]) -> bool
     ensures { result ≡ list_any (λ s. bytes_eq name.now s.name) others.now }
 {
-    others.iter().any(|other| name == other.name.as_str())
+    for other in others {
+        if name == other.name.as_str() {
+            return true;
+        }
+    }
+    false
 }
 
 impl SharedRules {

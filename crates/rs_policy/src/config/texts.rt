@@ -11,7 +11,12 @@ use rs_octets::Prefix;
 fn are_digits(text: &[u8]) -> bool
     ensures { result ≡ list_all is_digit text.now }
 {
-    text.iter().all(|octet| octet.is_ascii_digit())
+    for octet in text {
+        if !octet.is_ascii_digit() {
+            return false;
+        }
+    }
+    true
 }
 
 fn is_decimal(text: &[u8]) -> bool
@@ -45,7 +50,12 @@ fn number(text: &[u8], high: u32) -> Option<u32>
 fn place_of(text: &[u8], mark: u8) -> Option<usize>
     ensures { result ≡ position (λ c. c == mark) text.now }
 {
-    text.iter().position(|octet| *octet == mark)
+    for (index, octet) in text.iter().enumerate() {
+        if *octet == mark {
+            return Some(index);
+        }
+    }
+    None
 }
 
 /// The octets before the first such one, and those after it.
@@ -264,7 +274,12 @@ fn is_name_octet(octet: u8) -> bool
 fn are_name_octets(text: &[u8]) -> bool
     ensures { result ≡ list_all is_name_octet text.now }
 {
-    text.iter().all(|octet| is_name_octet(*octet))
+    for octet in text {
+        if !is_name_octet(*octet) {
+            return false;
+        }
+    }
+    true
 }
 
 /// Whether a text can be a name.

@@ -15,7 +15,7 @@ use crate::rules::Disposition;
 use toml::value::Value;
 
 /// What the top sets, but for the clients.
-#[derive(Clone, Copy, Debug)]
+#[derive(Clone, Copy)]
 pub(crate) struct Top {
     pub(crate) server_as: u32,
     pub(crate) identifier: u32,
