@@ -4,8 +4,8 @@
 ghost use Rattle.std.specs.Prelude.{◌≡◌, ◌≢◌, ◌<◌, ℕ, List, Some, length, map, Ok, Err, IfOk, IfErr, IsOk, IsErr, IsUtf8};
 ghost use Rattle.rs_policy.specs.Documents.{config_of};
 ghost use Rattle.rs_policy.specs.declared.faults.ConfigFault.{ConfigFault};
-ghost use Rattle.rs_command.specs.declared.configuration.ConfigurationFault.TheVariants as faults;
-ghost use Rattle.rs_command.specs.declared.status.Status.TheVariants as statuses;
+ghost use Rattle.rs_start.specs.declared.configuration.ConfigurationFault.TheVariants as faults;
+ghost use Rattle.rs_start.specs.declared.status.Status.TheVariants as statuses;
 ghost use Rattle.rs_texts.specs.Joined.{joined};
 ghost use Rattle.rs_texts.specs.declared.joined.JoinFault.TheVariants as joins;
 

@@ -24,7 +24,7 @@ pub enum Status {
 
 impl Status {
     ghost use Rattle.std.specs.Prelude.{◌≡◌};
-    ghost use Rattle.rs_command.specs.declared.status.Status.TheVariants as statuses;
+    ghost use Rattle.rs_start.specs.declared.status.Status.TheVariants as statuses;
 
     /// The number that the system is given.
     pub fn number(self) -> u8
