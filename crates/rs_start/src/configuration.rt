@@ -69,7 +69,7 @@ pub struct Configured {
 }
 
 /// Why files give no configuration.
-#[derive(Clone, Copy, Debug, Drop)]
+#[derive(Clone, Copy, Drop)]
 pub struct Unconfigured {
     pub fault: ConfigurationFault,
     /// The file that can't be read, by its place from 0, and why.
@@ -77,7 +77,7 @@ pub struct Unconfigured {
 }
 
 /// Why a file can't be read as text.
-#[derive(Clone, Copy, Debug, Drop)]
+#[derive(Clone, Copy, Drop)]
 pub enum Unread {
     Fails(io::Error),
     NotUtf8,
