@@ -5,10 +5,10 @@ ghost use Rattle.std.specs.Prelude.{◌≡◌, Err, IfOk, IfSome, string_bytes};
 ghost use Rattle.rs_policy.specs.Documents.{config_of};
 
 use crate::{tell, tell_line};
-use rs_command::configuration::ConfigurationFault;
 use rs_findings::{Source, is_new, line_about, mended, syntax_line};
 use rs_places::document_of;
 use rs_policy::{Config, ConfigFault};
+use rs_start::configuration::ConfigurationFault;
 use std::alloc::{AllocError, Global};
 use toml::value::Value;
 

@@ -10,14 +10,14 @@ mod warnings;
 
 ghost use Rattle.std.specs.Prelude.{◌≡◌, ◌≢◌, IfOk, IsOk, IsErr, IsUtf8};
 ghost use Rattle.rs_policy.specs.Documents.{config_of};
-ghost use Rattle.rs_command.specs.declared.status.Status.TheVariants as statuses;
+ghost use Rattle.rs_start.specs.declared.status.Status.TheVariants as statuses;
 
 use crate::faults::tell_faults;
 use crate::warnings::warnings_of;
-use rs_command::Status;
-use rs_command::configuration::{ConfigurationFault, Unconfigured, configuration_of, read_texts};
 use rs_findings::{Files, Source, Warning, not_utf_8_line, stray_line, strays_of};
 use rs_policy::Config;
+use rs_start::Status;
+use rs_start::configuration::{ConfigurationFault, Unconfigured, configuration_of, read_texts};
 use rs_texts::Joined;
 use std::alloc::{AllocError, Global};
 use std::io;

@@ -1,8 +1,8 @@
 //! What comes of a command line.
 
-use crate::Status;
 use clap::error::ErrorKind;
 use clap::{ArgMatches, Command, Error};
+use rs_start::Status;
 use std::alloc::{AllocError, Global};
 use std::io;
 

@@ -2,7 +2,8 @@
 
 use crate::files::{Files, Position, Source};
 use crate::forms::{form, strangers, uses_others};
-use crate::place::{entries_of, spot, steps_to, steps_to_key, steps_to_table};
+use crate::place::{entries_of, found, steps_to, steps_to_key, steps_to_table};
+use rs_places::place::spot;
 use rs_places::{Spot, Step, value_at};
 use rs_policy::{ConfigFault, Key, Place, Table, known_keys};
 use std::alloc::{AllocError, Global};
@@ -79,7 +80,9 @@ pub(crate) fn position_of<'a>(
     source: &Source<'a>,
     steps: &[Step<'_>],
 ) -> Result<Position<'a>, AllocError> {
-    Ok(position_at(source, spot(alloc, source.text, steps)?))
+    let found = found(alloc, source.text, steps)?;
+    let spot = spot(alloc, source.text, steps, found)?;
+    Ok(position_at(source, spot))
 }
 
 /// A value as it stands in the text, if it was found there.
@@ -157,7 +160,8 @@ impl<'a> Parsed<'a> {
     /// The value that stands at a place, and the form that is expected there.
     fn value_line(&self, alloc: Global, place: &Place) -> Result<String, AllocError> {
         let steps = steps_to(alloc, place)?;
-        let spot = spot(alloc, self.source.text, &steps)?;
+        let found = found(alloc, self.source.text, &steps)?;
+        let spot = spot(alloc, self.source.text, &steps, found)?;
         let at = position_at(self.source, spot);
         match standing(self.source.text, spot) {
             Some(text) => expected_line(alloc, at, place, text),

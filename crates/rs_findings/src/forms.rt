@@ -1,17 +1,7 @@
-//! Whether a table of a configuration may have a key, and the form of each key's value.
+//! The keys that a table of a configuration may not have, and the form of each key's value.
 
-ghost use Rattle.std.specs.Prelude.{◌≡◌};
-ghost use Rattle.rs_policy.specs.Keys.{is_among, keys_of};
-
-use rs_policy::{Key, List, Place, Table, known_keys};
+use rs_policy::{Key, List, Place, Table, is_known};
 use std::alloc::{AllocError, Global};
-
-/// Whether a table may have this key.
-fn is_known(table: Table, uses: bool, text: &str) -> bool
-    ensures { result ≡ is_among (keys_of table uses) text.now }
-{
-    known_keys(table, uses).iter().any(|key| key.text() == text)
-}
 
 /// Whether a table of this content names rules that it uses.
 pub(crate) fn uses_others(entries: Option<&toml::Table>) -> bool {

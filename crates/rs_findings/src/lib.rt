@@ -3,8 +3,8 @@
 //!
 //! `files` knows in which file a place of the text lies that they are together, and `strays` what belongs to
 //! a table of the file before its own. `find` looks for a value in the text of a document, and `place` for the
-//! one at a place of a configuration, which has `rs_places` try what was found. `forms` has the keys and the
-//! forms of their values, `details` the line about a fault, `warning` the one about what is good but likely
+//! one at a place of a configuration. `forms` has the keys and the forms of their values, `details` the line about
+//! a fault, before which `rs_places` tries what was found, `warning` the one about what is good but likely
 //! wrong, `mending` the text without a fault, and `news` says which faults come of others.
 //!
 //! The tests are those of `rs_check`.

@@ -1,10 +1,7 @@
 //! The steps to a place of a configuration, and where they lead to in its text.
 
-ghost use Rattle.std.specs.Prelude.{◌≡◌, true, IfOk, IfSome};
-ghost use Rattle.rs_places.specs.Positions.{stands_at};
-
 use crate::find::{find, if_there};
-use rs_places::{Spot, Step, tried, value_at};
+use rs_places::{Spot, Step, value_at};
 use rs_policy::{Key, List, Place, Table};
 use std::alloc::{AllocError, Global};
 use toml::value::Value;
@@ -89,18 +86,4 @@ pub(crate) fn found(
     steps: &[Step<'_>],
 ) -> Result<Option<Spot>, AllocError> {
     if_there(find(alloc, text, steps))
-}
-
-/// Where the steps lead to in a text. What was found is tried first: None where it isn't there.
-pub(crate) fn spot(
-    alloc: Global,
-    text: &str,
-    steps: &[Step<'_>],
-) -> Result<Option<Spot>, AllocError>
-    ensures { IfOk result (λ o. IfSome o (λ s. stands_at text.now steps.now s ≡ true)) }
-{
-    let Some(spot) = found(alloc, text, steps)? else {
-        return Ok(None);
-    };
-    tried(alloc, text, steps, spot)
 }

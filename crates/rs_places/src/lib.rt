@@ -2,11 +2,12 @@
 //! what was found tried here.
 //!
 //! `steps` leads to a value of a document, `marks` tries whether the steps to it lead to what stands somewhere
-//! in the text, and `lines` counts lines and columns. It knows no configuration.
+//! in the text, by which `place` says where it stands, and `lines` counts lines and columns. It knows no configuration.
 #![tactic(auto)]
 
 mod lines;
 mod marks;
+pub mod place;
 mod steps;
 
 pub use lines::line_and_column;

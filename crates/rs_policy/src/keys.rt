@@ -1,7 +1,7 @@
 //! The keys that each table of a configuration may have, in the order in which they are checked.
 
 ghost use Rattle.std.specs.Prelude.{◌≡◌};
-ghost use Rattle.rs_policy.specs.Keys.{keys_of};
+ghost use Rattle.rs_policy.specs.Keys.{is_among, keys_of};
 
 use crate::faults::{Key, List, Table};
 
@@ -67,4 +67,11 @@ pub fn known_keys(table: Table, uses: bool) -> &'static [Key]
         Table::Rule(_, List::Import | List::Export, _) if uses => &USE_KEYS,
         Table::Rule(_, _, _) => &RULE_KEYS,
     }
+}
+
+/// Whether a table may have this key.
+pub fn is_known(table: Table, uses: bool, text: &str) -> bool
+    ensures { result ≡ is_among (keys_of table uses) text.now }
+{
+    known_keys(table, uses).iter().any(|key| key.text() == text)
 }

@@ -24,7 +24,7 @@ mod rules;
 
 pub use config::Config;
 pub use faults::{ConfigFault, Key, List, Place, RulesFault, Table};
-pub use keys::known_keys;
+pub use keys::{is_known, known_keys};
 pub use rules::noting::{import_note, judge_noted};
 pub use rules::reasons::{Decider, Reasons, reasons_for};
 pub use rules::verdict::{Fate, Verdict, judge};

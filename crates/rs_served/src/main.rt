@@ -4,9 +4,8 @@
 
 use anyhow::Result;
 use rs_check::check;
-use rs_command::configuration::read_configuration;
 use rs_command::serve::{LogLevel, Options};
-use rs_command::{Asked, Status, read_command};
+use rs_command::{Asked, read_command};
 use rs_live::connections::listen_addresses;
 use rs_live::serve::{Limits, serve};
 use rs_policy::Config;
@@ -14,6 +13,8 @@ use rs_reports::logging::{Level, Log};
 use rs_reports::names::Names;
 use rs_sockets::record::Record;
 use rs_sockets::sockets::{ListenFault, Sockets};
+use rs_start::Status;
+use rs_start::configuration::read_configuration;
 use rs_visitors::ask::{ask, is_error, is_whole};
 use std::alloc::Global;
 use std::fmt::Display;

@@ -5,7 +5,8 @@ mod configuration;
 
 use crate::common::{equals, is, push};
 use rs_command::serve::LogLevel;
-use rs_command::{Asked, Status, read_command, replay, serve};
+use rs_command::{Asked, read_command, replay, serve};
+use rs_start::Status;
 use std::alloc::Global;
 use std::cell::RefCell;
 use std::fmt::{Display, Write};

@@ -4,7 +4,7 @@ use super::configuration::{GOOD, MEMBERS, TOP, TWO_FAULTS};
 use super::{Streams, is_printed, put_text};
 use crate::common::{is, push};
 use rs_check::check_texts;
-use rs_command::Status;
+use rs_start::Status;
 use rs_texts::{Text, join, read_on};
 use std::alloc::Global;
 use std::io;

@@ -2,12 +2,12 @@
 
 use super::{Streams, is_printed, put_text};
 use crate::common::{equals, is, push};
-use rs_command::Status;
-use rs_command::configuration::{
+use rs_policy::{ConfigFault, Key, Place, Table};
+use rs_start::Status;
+use rs_start::configuration::{
     ConfigurationFault, Configured, Unconfigured, Unread, read_configuration,
     read_configuration_from,
 };
-use rs_policy::{ConfigFault, Key, Place, Table};
 use rs_texts::{Text, read_on};
 use std::alloc::Global;
 use std::io::ErrorKind;
