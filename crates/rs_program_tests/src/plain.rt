@@ -19,7 +19,7 @@ use rs_octets::Prefix;
 use std::sync::Arc;
 
 /// A sentence of the definitions, which a wrong reading leaves out.
-#[derive(Clone, Copy, Debug, PartialEq, Eq)]
+#[derive(Clone, Copy, PartialEq)]
 enum Sentence {
     /// The last mention of a prefix counts.
     LastMention,
@@ -44,7 +44,7 @@ enum Sentence {
 }
 
 /// In which respect a filter compares (RFC 4271, 9.1.1 and 9.1.2.2).
-#[derive(Clone, Copy, Debug, PartialEq, Eq)]
+#[derive(Clone, Copy, PartialEq)]
 enum Filter {
     Preference,
     Path,
@@ -90,8 +90,13 @@ struct Exchange {
     clients: Vec<Client>,
 }
 
+/// By which routes stand in a table.
+fn prefix_of(route: &Route) -> Prefix {
+    route.prefix
+}
+
 /// The route of a table at a prefix, of which it has one at most, by rising prefix.
 fn route_at<'a>(table: &'a [Route], prefix: &Prefix) -> Option<&'a Route> {
-    let place = table.binary_search_by_key(prefix, |route| route.prefix);
+    let place = table.binary_search_by_key(prefix, prefix_of);
     table.get(place.ok()?)
 }

@@ -103,11 +103,16 @@ fn sentence(name: &str) -> Option<Sentence> {
     None
 }
 
+/// The prefix that two words say.
+fn prefix(words: &[&str]) -> Option<Prefix> {
+    let len = u8::try_from(number(words, 1)?).ok()?;
+    Prefix::new(number(words, 0)?, len)
+}
+
 /// The range that four words say.
 fn range(words: &[&str]) -> Option<Range> {
-    let len = u8::try_from(number(words, 1)?).ok()?;
     Some(Range {
-        prefix: Prefix::new(number(words, 0)?, len)?,
+        prefix: prefix(words)?,
         min: number(words, 2)?,
         max: number(words, 3)?,
     })
