@@ -73,5 +73,17 @@ pub fn known_keys(table: Table, uses: bool) -> &'static [Key]
 pub fn is_known(table: Table, uses: bool, text: &str) -> bool
     ensures { result ≡ is_among (keys_of table uses) text.now }
 {
-    known_keys(table, uses).iter().any(|key| key.text() == text)
+    is_among(known_keys(table, uses), text)
+}
+
+/// Whether one of these keys has this text.
+pub(crate) fn is_among(keys: &[Key], text: &str) -> bool
+    ensures { result ≡ is_among keys.now text.now }
+{
+    for key in keys {
+        if key.text() == text {
+            return true;
+        }
+    }
+    false
 }

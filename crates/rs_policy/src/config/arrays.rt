@@ -12,6 +12,7 @@ ghost use Rattle.rs_policy.specs.Values.{list_of, is_table, needed_tables_at, ta
 
 use crate::config::values::find;
 use crate::faults::{ConfigFault, Key, Place};
+use crate::keys::is_among;
 use toml::value::{Table, Value};
 
 #[tactic(auto, using(crate::proofs::Reading::Documents::list_of_view))]
@@ -112,17 +113,6 @@ pub(crate) fn some_tables(
         [] => Err(ConfigFault::Missing(Place { key, ..here })),
         found => Ok(found),
     }
-}
-
-fn is_among(keys: &[Key], text: &str) -> bool
-    ensures { result ≡ is_among keys.now text.now }
-{
-    for key in keys {
-        if key.text() == text {
-            return true;
-        }
-    }
-    false
 }
 
 fn are_among(entries: &Table, keys: &[Key]) -> bool
