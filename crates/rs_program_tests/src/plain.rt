@@ -90,13 +90,8 @@ struct Exchange {
     clients: Vec<Client>,
 }
 
-/// By which routes stand in a table.
-fn prefix_of(route: &Route) -> Prefix {
-    route.prefix
-}
-
 /// The route of a table at a prefix, of which it has one at most, by rising prefix.
 fn route_at<'a>(table: &'a [Route], prefix: &Prefix) -> Option<&'a Route> {
-    let place = table.binary_search_by_key(prefix, prefix_of);
+    let place = table.binary_search_by_key(prefix, |route| route.prefix);
     table.get(place.ok()?)
 }

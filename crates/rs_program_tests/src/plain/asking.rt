@@ -103,16 +103,11 @@ fn sentence(name: &str) -> Option<Sentence> {
     None
 }
 
-/// The prefix that two words say.
-fn prefix(words: &[&str]) -> Option<Prefix> {
-    let len = u8::try_from(number(words, 1)?).ok()?;
-    Prefix::new(number(words, 0)?, len)
-}
-
 /// The range that four words say.
 fn range(words: &[&str]) -> Option<Range> {
+    let len = u8::try_from(number(words, 1)?).ok()?;
     Some(Range {
-        prefix: prefix(words)?,
+        prefix: Prefix::new(number(words, 0)?, len)?,
         min: number(words, 2)?,
         max: number(words, 3)?,
     })

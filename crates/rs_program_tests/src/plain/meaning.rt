@@ -1,6 +1,6 @@
 //! What octets mean: the sessions and tables that they make, by the last mention of each prefix.
 
-use crate::plain::{Route, Sentence, Session, prefix_of};
+use crate::plain::{Route, Sentence, Session};
 use rs_attrs::{Attrs, Mode};
 use rs_octets::{Allowed, Front, Kind, Prefix, read_front};
 use rs_open::read_open;
@@ -36,7 +36,7 @@ fn mention(
     attrs: Option<&Arc<Attrs>>,
     without: Option<Sentence>,
 ) -> Result<(), AllocError> {
-    let place = table.binary_search_by_key(prefix, prefix_of);
+    let place = table.binary_search_by_key(prefix, |route| route.prefix);
     if without == Some(Sentence::LastMention) && place.is_ok() {
         return Ok(());
     }
