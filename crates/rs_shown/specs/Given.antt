@@ -1,8 +1,8 @@
 -- Which orders wait at the control socket.
 use Rattle.std.specs.Prelude.{List, [], Option, Some, None}
 use Rattle.rs_control.specs.declared.order.Order.{Order}
-use Rattle.rs_callers.specs.Dues.{due_at}
-use Rattle.rs_callers.specs.declared.control.Control.{Control}
+use Rattle.rs_visitors.specs.Dues.{due_at}
+use Rattle.rs_visitors.specs.declared.control.Control.{Control}
 use Rattle.rs_shown.specs.declared.shown.Shown.{Shown}
 
 -- what waits at the control socket, where there is one

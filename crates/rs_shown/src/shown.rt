@@ -5,7 +5,6 @@ ghost use Rattle.std.specs.Prelude.{◌≡◌, ◌++◌, option_to_list};
 
 use crate::core_tables::CoreTables;
 use mio::Poll;
-use rs_callers::control::Control;
 use rs_control::order::Order;
 use rs_control::orders::Reloaded;
 use rs_control::steps::Server;
@@ -14,6 +13,7 @@ use rs_live::ports::{Line, Observed};
 use rs_page_rows::counts::Direction;
 use rs_page_rows::moments::{Changes, Moments};
 use rs_pages::server_pages::ServerPages;
+use rs_visitors::control::Control;
 use rs_visitors::window::Window;
 use std::alloc::{AllocError, Global};
 

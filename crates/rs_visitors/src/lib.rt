@@ -1,12 +1,14 @@
-//! The sockets of those who look at the server, under the poll of its other sockets. What is said is
-//! `rs_window`'s; here are readiness, turns, patience and ends.
+//! The sockets of those who look at the server, and of its operator, under the poll of the server's other
+//! sockets. What is said is `rs_window`'s and `rs_control`'s; here are readiness, turns, patience and ends.
 //!
-//! `window` is a listener, and a `visitor` a connection over HTTP, which is a `wire`. In a `round` those of one
-//! listener go on. The operator's connections, in `rs_callers`, have both too; `ask` is who calls there.
+//! `window` is a listener, and a `visitor` a connection over HTTP; `control` the control socket, a `caller` a
+//! connection to it over a `wire`, and `ask` who calls. In a `round` those of one listener go on.
 #![tactic(auto)]
 
 pub mod ask;
-pub mod round;
+mod caller;
+pub mod control;
+mod round;
 mod visitor;
 pub mod window;
-pub mod wire;
+mod wire;

@@ -6,20 +6,20 @@ use std::alloc::{AllocError, Global};
 
 /// A round of a listener. Its room is made once, and begun with anew in each.
 #[derive(Drop)]
-pub struct Round {
+pub(crate) struct Round {
     /// What is read is put here.
-    pub input: [u8; INPUT],
+    pub(crate) input: [u8; INPUT],
     /// A piece of a page is written here.
-    pub piece: Piece,
+    pub(crate) piece: Piece,
     /// How many heads, lines and pieces may still be answered.
-    pub pieces: usize,
+    pub(crate) pieces: usize,
     /// The moment, in milliseconds.
-    pub now: u64,
+    pub(crate) now: u64,
 }
 
 impl Round {
     /// A round that has not begun.
-    pub fn new(alloc: Global) -> Result<Round, AllocError> {
+    pub(crate) fn new(alloc: Global) -> Result<Round, AllocError> {
         Ok(Round {
             input: [0; INPUT],
             piece: Piece::new(alloc)?,
@@ -29,13 +29,13 @@ impl Round {
     }
 
     /// Begins at this moment, with so many heads, lines and pieces.
-    pub fn begin(&mut self, pieces: usize, now: u64) {
+    pub(crate) fn begin(&mut self, pieces: usize, now: u64) {
         self.pieces = pieces;
         self.now = now;
     }
 
     /// One head, line or piece was answered.
-    pub fn take_piece(&mut self) {
+    pub(crate) fn take_piece(&mut self) {
         self.pieces = self.pieces.saturating_sub(1);
     }
 }

@@ -3,28 +3,28 @@
 use std::io::{ErrorKind, Read, Write};
 
 /// The most octets that are read at once.
-pub const INPUT: usize = 4096;
+pub(crate) const INPUT: usize = 4096;
 
 /// The most heads, lines and pieces that are answered in a round, for all who came to one listener together:
 /// what a member says in the meantime waits for as long.
-pub const PIECES: usize = 1;
+pub(crate) const PIECES: usize = 1;
 
 /// For how many milliseconds nobody is let in after descriptors were wanting.
-pub const SHUT: u64 = 5000;
+pub(crate) const SHUT: u64 = 5000;
 
 /// A connection of a visitor or of an operator.
 #[derive(Drop)]
-pub struct Wire<S> {
-    pub stream: S,
-    pub is_readable: bool,
-    pub is_writable: bool,
+pub(crate) struct Wire<S> {
+    pub(crate) stream: S,
+    pub(crate) is_readable: bool,
+    pub(crate) is_writable: bool,
     /// It failed, and is to be closed.
-    pub is_broken: bool,
+    pub(crate) is_broken: bool,
 }
 
 impl<S: Read + Write + Drop> Wire<S> {
     /// A stream of which nothing is known.
-    pub fn new(stream: S) -> Wire<S> {
+    pub(crate) fn new(stream: S) -> Wire<S> {
         Wire {
             stream,
             is_readable: true,
@@ -34,13 +34,13 @@ impl<S: Read + Write + Drop> Wire<S> {
     }
 
     /// Something may have become of it.
-    pub fn note(&mut self) {
+    pub(crate) fn note(&mut self) {
         self.is_readable = true;
         self.is_writable = true;
     }
 
     /// Reads once into this room, where something may be there. `None`: nothing is there now.
-    pub fn read(&mut self, room: &mut [u8]) -> Option<usize> {
+    pub(crate) fn read(&mut self, room: &mut [u8]) -> Option<usize> {
         if !self.is_readable || room.is_empty() {
             return None;
         }
@@ -58,7 +58,7 @@ impl<S: Read + Write + Drop> Wire<S> {
     }
 
     /// Writes once, where there is something and it may be taken. Answers how many octets were taken.
-    pub fn write(&mut self, octets: &[u8]) -> usize {
+    pub(crate) fn write(&mut self, octets: &[u8]) -> usize {
         if !self.is_writable || octets.is_empty() {
             return 0;
         }

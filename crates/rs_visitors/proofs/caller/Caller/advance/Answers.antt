@@ -1,6 +1,6 @@
 use Rattle.rs_control.specs.Courses.{Still, Advance}
 use Rattle.rs_control.proofs.Courses.{one_step}
-use Rattle.rs_callers.proofs.caller.Caller.advance.Goals as goal
+use Rattle.rs_visitors.proofs.caller.Caller.advance.Goals as goal
 
 pub returns-then-pieces-eq0 : goal.returns-then-pieces-eq0
 returns-then-pieces-eq0 g c = Still _ _

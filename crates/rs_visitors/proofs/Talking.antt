@@ -7,8 +7,8 @@ use Rattle.slab.proofs.SlabLemmas.{Updates-with_value}
 use Rattle.rs_control.specs.Courses.{AreOfThese}
 use Rattle.rs_control.specs.Talks.{IsFresh}
 use Rattle.rs_control.proofs.Courses.{as_it_was, begun, gone}
-use Rattle.rs_callers.specs.declared.caller.Caller.{Caller}
-use Rattle.rs_callers.specs.Callers.{talks_with}
+use Rattle.rs_visitors.specs.declared.caller.Caller.{Caller}
+use Rattle.rs_visitors.specs.Callers.{talks_with}
 
 -- nobody comes or goes
 pub all_stay : (old new : Slab Caller) → ((key : ℕ) → get new key ≡ get old key) → AreOfThese (talks_with old) (talks_with new)

@@ -1,8 +1,8 @@
 use Rattle.std.proofs.Common.{sym, subst}
 use Rattle.rs_control.specs.Courses.{Serves, Nobody, ComeAndGo}
 use Rattle.rs_control.proofs.Courses.{served}
-use Rattle.rs_callers.specs.Callers.{talks_at}
-use Rattle.rs_callers.proofs.control.Control.go_on.Goals as goal
+use Rattle.rs_visitors.specs.Callers.{talks_at}
+use Rattle.rs_visitors.proofs.control.Control.go_on.Goals as goal
 
 pub loop-turn-init : goal.loop-turn-init
 loop-turn-init g c =

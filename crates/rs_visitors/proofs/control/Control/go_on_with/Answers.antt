@@ -1,8 +1,8 @@
 use Rattle.std.proofs.Common.{option_map, ap, sym, subst, ◌∙◌}
 use Rattle.rs_control.specs.Courses.{Serves, Nobody, ComeAndGo, Somebody}
-use Rattle.rs_callers.specs.Callers.{talks_at, talks_with}
-use Rattle.rs_callers.proofs.Talking.{one_goes_on, others_stay}
-use Rattle.rs_callers.proofs.control.Control.go_on_with.Goals as goal
+use Rattle.rs_visitors.specs.Callers.{talks_at, talks_with}
+use Rattle.rs_visitors.proofs.Talking.{one_goes_on, others_stay}
+use Rattle.rs_visitors.proofs.control.Control.go_on_with.Goals as goal
 
 pub returns-in_default : goal.returns-in_default
 returns-in_default g c = Nobody c.args.self.now.orders (talks_at c.args.self.now)

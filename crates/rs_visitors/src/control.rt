@@ -3,13 +3,13 @@
 ghost use Rattle.std.specs.Prelude.{◌≡◌, ◌++◌, [], option_to_list, IsNone};
 
 use crate::caller::Caller;
+use crate::round::Round;
+use crate::wire::{PIECES, SHUT};
 use mio::net::{UnixListener, UnixStream as Connection};
 use mio::{Interest, Poll, Token};
 use rs_control::order::Order;
 use rs_control::orders::{Orders, Reloaded};
 use rs_control::steps::Server;
-use rs_visitors::round::Round;
-use rs_visitors::wire::{PIECES, SHUT};
 use rs_window::page::Pages;
 use slab::Slab;
 use std::alloc::Global;
@@ -64,8 +64,8 @@ pub fn remove<R: Files>(rt: &R, path: &str) {
 impl Control {
     ghost use Rattle.rs_control.specs.Courses.{AreOfThese, Serves};
     ghost use Rattle.rs_control.specs.Orders.{due};
-    ghost use Rattle.rs_callers.specs.Callers.{talks_at};
-    ghost use Rattle.rs_callers.specs.Dues.{due_at};
+    ghost use Rattle.rs_visitors.specs.Callers.{talks_at};
+    ghost use Rattle.rs_visitors.specs.Dues.{due_at};
 
     /// A control socket at this path, for tokens from `first` on. Its file has the mode 0600.
     pub fn open<R: Net + Files>(

@@ -1,7 +1,7 @@
 use Rattle.std.proofs.Common.{refl}
 use Rattle.rs_control.specs.Courses.{Listen, Send, Still, Then}
 use Rattle.rs_control.proofs.Courses.{one_step, followed}
-use Rattle.rs_callers.proofs.caller.Caller.go_on.Goals as goal
+use Rattle.rs_visitors.proofs.caller.Caller.go_on.Goals as goal
 
 pub loop-init : goal.loop-init
 loop-init g c = Still _ _

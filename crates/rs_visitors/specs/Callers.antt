@@ -2,8 +2,8 @@
 use Rattle.std.specs.Prelude.{ℕ, Option, option_map}
 use Rattle.slab.specs.Slab.{Slab, get}
 use Rattle.rs_control.specs.declared.talk.Talk.{Talk}
-use Rattle.rs_callers.specs.declared.caller.Caller.{Caller}
-use Rattle.rs_callers.specs.declared.control.Control.{Control}
+use Rattle.rs_visitors.specs.declared.caller.Caller.{Caller}
+use Rattle.rs_visitors.specs.declared.control.Control.{Control}
 
 abbrev pub talks_with : Slab Caller → ℕ → Option Talk
 talks_with callers key = option_map (λ caller. caller.talk) (get callers key)

@@ -4,13 +4,13 @@ ghost use Rattle.std.specs.Prelude.{IfOk};
 ghost use Rattle.rs_control.specs.Courses.{Course, Listens, Sends};
 ghost use Rattle.rs_control.specs.Talks.{IsFresh};
 
+use crate::round::Round;
+use crate::wire::{INPUT, Wire};
 use mio::net::UnixStream;
 use mio::{Interest, Poll, Token};
 use rs_control::orders::Orders;
 use rs_control::steps::Server;
 use rs_control::talk::Talk;
-use rs_visitors::round::Round;
-use rs_visitors::wire::{INPUT, Wire};
 use rs_window::page::Pages;
 use std::alloc::Global;
 use std::io;
