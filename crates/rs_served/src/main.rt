@@ -10,7 +10,7 @@ use rs_live::connections::listen_addresses;
 use rs_live::serve::{Limits, serve};
 use rs_policy::Config;
 use rs_reports::logging::{Level, Log};
-use rs_reports::names::Names;
+use rs_sockets::names::Names;
 use rs_sockets::record::Record;
 use rs_sockets::sockets::{ListenFault, Sockets};
 use rs_start::Status;

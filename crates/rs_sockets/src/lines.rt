@@ -2,8 +2,8 @@
 //! strangers, so that nobody can fill a disk by coming and going. None is left out: of what comes more
 //! often a later line has the count.
 
+use crate::names::Names;
 use rs_live::ports::Line;
-use rs_reports::names::Names;
 use rs_reports::rate_limits::RateLimit;
 use rs_shown::tally::Tally;
 use rs_streams::printer::Printer;

@@ -1,7 +1,7 @@
 //! The record of a run, on files: `FILE`, and after it `FILE.1`, `FILE.2`, each with the text of the
 //! configuration that was in force when it was begun beside it. `rs_replay` plays them, one after the other.
 
-use rs_reports::logging::Stamp;
+use crate::stamps::Stamp;
 use rs_streams::record_file::{AppendedFile, ROOM, RecordEnd, RecordFile};
 use std::alloc::Global;
 use std::fs::OpenOptions;

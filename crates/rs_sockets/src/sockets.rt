@@ -8,9 +8,12 @@ mod listening;
 use crate::configuration::Configuration;
 use crate::lines::Lines;
 use crate::listeners::{Accepted, Listeners};
+use crate::names::Names;
 use crate::record::Record;
 pub use crate::sockets::listening::ListenFault;
 use crate::sockets::listening::{FIRST_LISTENER, Listening};
+use crate::stamps::Stamp;
+use crate::wording::Worded;
 use mio::net::TcpStream;
 use mio::{Events, Interest, Poll, Token};
 use rs_control::order::Order;
@@ -19,9 +22,8 @@ use rs_core::Core;
 use rs_live::orders;
 use rs_live::ports::{Incoming, Line, Observed, PortFault, Ports};
 use rs_live::serve::ServeFault;
-use rs_reports::logging::{Level, Log, Stamp};
-use rs_reports::names::Names;
-use rs_reports::reports::{Report, Worded};
+use rs_reports::logging::{Level, Log};
+use rs_reports::reports::Report;
 use rs_shown::shown::Shown;
 use rs_streams::file_watch::{FileFault, FileWatch};
 use rs_streams::printer::Printer;
@@ -466,7 +468,7 @@ impl<'a, R: Net + Clock + Files> Ports for Sockets<'a, R> {
 
     fn log(&mut self, report: &Report) {
         let stamp = self.stamp();
-        report.print(&mut self.errors, stamp, self.names);
+        Worded(report, self.names).print(&mut self.errors, stamp);
     }
 
     fn record(&mut self, lines: &[u8], end: Option<RecordEnd>) -> bool {

@@ -6,7 +6,7 @@ use rs_live::connections::listen_addresses;
 use rs_live::serve::serve;
 use rs_policy::Config;
 use rs_reports::logging::Log;
-use rs_reports::names::Names;
+use rs_sockets::names::Names;
 use rs_sockets::sockets::Sockets;
 use std::io::{Read, Write};
 use std::net::{Ipv4Addr, SocketAddr, SocketAddrV4, TcpStream};

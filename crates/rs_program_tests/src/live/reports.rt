@@ -6,10 +6,11 @@ use rs_attrs::{AttributeFault, Cause, Faulted, Mode};
 use rs_core::{Ending, NOTICE_MAX, Notice};
 use rs_open::{Limit, Short, ShutdownText};
 use rs_reports::communications::communication_in;
-use rs_reports::logging::Stamp;
-use rs_reports::names::Names;
 use rs_reports::offers::Offered;
-use rs_reports::reports::{Holder, Report, Worded};
+use rs_reports::reports::{Holder, Report};
+use rs_sockets::names::Names;
+use rs_sockets::stamps::Stamp;
+use rs_sockets::wording::Worded;
 use std::alloc::Global;
 use std::process::Abort;
 
