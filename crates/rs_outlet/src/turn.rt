@@ -195,7 +195,9 @@ fn decide_number(
     if sources.ins.at_number(number).is_empty() && rows.get(number).is_none() {
         return Ok(false);
     }
-    decide_one(alloc, sources, speech, rows, number, prefix, drafts, changes)?;
+    decide_one(
+        alloc, sources, speech, rows, number, prefix, drafts, changes,
+    )?;
     Ok(true)
 }
 

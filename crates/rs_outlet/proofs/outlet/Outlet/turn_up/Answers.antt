@@ -187,7 +187,7 @@ invariant_of-self-2 c =
       extended = kept.extended;
       backed = c.commit.ensures.backed (are_backed_same a.rows.rows.items c.make_room.new.rows.rows.items a.waits.slots.items c.make_room.new.waits.slots.items c.make_room.ensures.rows c.make_room.ensures.waits kept.backed);
       chained = c.commit.ensures.chained (are_backed_same a.rows.rows.items c.make_room.new.rows.rows.items a.waits.slots.items c.make_room.new.waits.slots.items c.make_room.ensures.rows c.make_room.ensures.waits kept.backed)
-      (same_chained a.rows.rows.items c.make_room.new.rows.rows.items (take a.waits.sorted a.waits.slots.items) (take c.make_room.new.waits.sorted c.make_room.new.waits.slots.items) a.waits.chains.items _ c.make_room.ensures.rows (λ i. take (c.make_room.ensures.sorted i) (c.make_room.ensures.waits i)) c.make_room.ensures.chains kept.chained);
+          (same_chained a.rows.rows.items c.make_room.new.rows.rows.items (take a.waits.sorted a.waits.slots.items) (take c.make_room.new.waits.sorted c.make_room.new.waits.slots.items) a.waits.chains.items _ c.make_room.ensures.rows (λ i. take (c.make_room.ensures.sorted i) (c.make_room.ensures.waits i)) c.make_room.ensures.chains kept.chained);
       fit = fit_spoken c.commit.new.rows.rows.items a.speech c.args.speech is
           (c.commit.ensures.fit c.args.speech
           (changes_fit (held_by c.args.sources.now) c.args.sources.now.client c.args.speech c.in_ok-changes.field-0.changes.items c.in_ok-changes.ensures.changes.due)
