@@ -1,7 +1,7 @@
-use Rattle.std.proofs.Common.{◌∙◌, ◌≤◌, arith, subst, sym, rules}
+use Rattle.std.proofs.Common.{◌∙◌, arith, subst, sym}
 use Rattle.std.specs.FinMap as fin
 use Rattle.rs_outlet.specs.Inside.{loc_of}
-use Rattle.rs_outlet.specs.Pending.Marking.{MayReopen, MayWaitAgain}
+use Rattle.rs_outlet.specs.Pending.Marking.{MayReopen}
 use Rattle.rs_outlet.specs.Pending.Slots.{open_at}
 use Rattle.rs_outlet.proofs.Pending.Reopened.{again_both, backed_marked, each_due, marked_where, withdrawn_marked}
 use Rattle.rs_outlet.proofs.Pending.Unchanged.{backed_same}

@@ -1,5 +1,4 @@
-use Rattle.std.proofs.Common.{ap, take}
-use Rattle.rs_outlet.specs.Pending.Slots.{open_at, withdrawn_count}
+use Rattle.std.proofs.Common.{take}
 use Rattle.rs_outlet.proofs.Pending.Chains.{none_chained}
 use Rattle.rs_outlet.proofs.waiting.Waits.prepare.Goals as goal
 

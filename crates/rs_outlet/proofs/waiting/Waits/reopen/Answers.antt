@@ -1,4 +1,4 @@
-use Rattle.std.proofs.Common.{◌∙◌, ap, arith, drop, length, subst, sym, take, rules}
+use Rattle.std.proofs.Common.{ap, arith, drop, length, subst, sym, take}
 use Rattle.std.specs.List.Sorted.{IsStrictlySortedBy}
 use Rattle.std.proofs.lemmas.List.{length-map}
 use Rattle.rs_octets.specs.Prefixes.{prefix_order}
