@@ -32,14 +32,14 @@ pub(crate) struct Sources<'a> {
 
 /// What one decision of a turn leaves to the next: room for ranks, and the last attributes that rules made.
 #[derive(Drop)]
-pub(crate) struct Drafts {
+pub(crate) struct Draft {
     ranks: Vec<Rank>,
     stripped: Option<Arc<Attrs>>,
 }
 
-impl Drafts {
-    pub(crate) fn new(alloc: Global) -> Drafts {
-        Drafts {
+impl Draft {
+    pub(crate) fn new(alloc: Global) -> Draft {
+        Draft {
             ranks: Vec::new(alloc),
             stripped: None,
         }
@@ -260,7 +260,7 @@ fn decide_among<'a>(
     number: u32,
     prefix: &Prefix,
     holders: Holders<'a>,
-    drafts: &mut Drafts,
+    draft: &mut Draft,
 ) -> Result<Option<Passed<'a>>, AllocError>
     requires number { number_of sources.now.ins.now prefix.now ≡ Some number }
     requires holders { ListsHolders sources.now.ins.now prefix.now (map (λ h. h.0) holders) }
@@ -268,24 +268,17 @@ fn decide_among<'a>(
     requires notes { All (λ h. h.1 ≡ note_of_import sources.now.config.now h.0.0 prefix.now h.0.1) holders }
     ensures { IfOk result (λ due. option_map attributes_passed due ≡ due_to (held_by sources.now) sources.now.client speech prefix.now) }
 {
-    rank_all(sources, prefix, holders, &mut drafts.ranks)?;
-    let Some(index) = best(&drafts.ranks) else {
+    rank_all(sources, prefix, holders, &mut draft.ranks)?;
+    let Some(index) = best(&draft.ranks) else {
         return Ok(None);
     };
-    let Some(rank) = drafts.ranks.get(index) else {
+    let Some(rank) = draft.ranks.get(index) else {
         return Ok(None);
     };
     let Some(holder) = sources.ins.noted_at(rank.place, number) else {
         return Ok(None);
     };
-    pass_fitting(
-        alloc,
-        sources,
-        speech,
-        prefix,
-        &holder,
-        &mut drafts.stripped,
-    )
+    pass_fitting(alloc, sources, speech, prefix, &holder, &mut draft.stripped)
 }
 
 /// What is due to the client at a prefix: the best of the candidates, as it is passed on, where it fits.
@@ -295,7 +288,7 @@ pub(crate) fn decide<'a>(
     speech: Speech,
     number: u32,
     prefix: &Prefix,
-    drafts: &mut Drafts,
+    draft: &mut Draft,
 ) -> Result<Option<Passed<'a>>, AllocError>
     requires number { number_of sources.now.ins.now prefix.now ≡ Some number }
     requires server { AreOfOneServer sources.now }
@@ -303,17 +296,10 @@ pub(crate) fn decide<'a>(
 {
     let mut holders = sources.ins.at_number(number);
     if holders.len() != 1 {
-        return decide_among(alloc, sources, speech, number, prefix, holders, drafts);
+        return decide_among(alloc, sources, speech, number, prefix, holders, draft);
     }
     match holders.next() {
         None => Ok(None),
-        Some(holder) => decide_alone(
-            alloc,
-            sources,
-            speech,
-            prefix,
-            &holder,
-            &mut drafts.stripped,
-        ),
+        Some(holder) => decide_alone(alloc, sources, speech, prefix, &holder, &mut draft.stripped),
     }
 }

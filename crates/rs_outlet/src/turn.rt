@@ -18,7 +18,7 @@ ghost use Rattle.rs_outlet.specs.Decided.Passing.{attributes_passed};
 
 use crate::answers::{Last, Speech, Turned};
 use crate::changes::{Change, commit, make_room};
-use crate::deciding::{Drafts, Passed, Sources, decide};
+use crate::deciding::{Draft, Passed, Sources, decide};
 use crate::outlet::Outlet;
 use crate::rows::Row;
 use crate::table::Rows;
@@ -64,14 +64,14 @@ fn decide_one(
     rows: &Rows,
     number: u32,
     prefix: Prefix,
-    drafts: &mut Drafts,
+    draft: &mut Draft,
     changes: &mut Vec<Change>,
 ) -> Result<(), AllocError>
     requires number { number_of sources.now.ins.now prefix ≡ Some number }
     requires server { AreOfOneServer sources.now }
     ensures { OnOk result (IsDecidedAt sources.now.ins.now (due_to (held_by sources.now) sources.now.client speech) rows.now.rows.items number changes.old.items changes.new.items) }
 {
-    let due = decide(alloc, sources, speech, number, &prefix, drafts)?;
+    let due = decide(alloc, sources, speech, number, &prefix, draft)?;
     let row = rows.get(number);
     if is_due(row, due.as_ref()) {
         return Ok(());
@@ -104,7 +104,7 @@ fn decide_touched(
     requires once { IsDistinct nat_eq (keys_of touched.now) }
     ensures { IfOk result (λ changes. AreDecided sources.now.ins.now (due_to (held_by sources.now) sources.now.client speech) rows.now.rows.items (is_numbered_in touched.now) changes.items) }
 {
-    let mut drafts = Drafts::new(alloc);
+    let mut draft = Draft::new(alloc);
     let mut changes = Vec::new(alloc);
     for (number, _) in touched {
         decide_number(
@@ -113,7 +113,7 @@ fn decide_touched(
             speech,
             rows,
             *number,
-            &mut drafts,
+            &mut draft,
             &mut changes,
         )?;
     }
@@ -181,7 +181,7 @@ fn decide_number(
     speech: Speech,
     rows: &Rows,
     number: u32,
-    drafts: &mut Drafts,
+    draft: &mut Draft,
     changes: &mut Vec<Change>,
 ) -> Result<bool, AllocError>
     requires server { AreOfOneServer sources.now }
@@ -195,9 +195,7 @@ fn decide_number(
     if sources.ins.at_number(number).is_empty() && rows.get(number).is_none() {
         return Ok(false);
     }
-    decide_one(
-        alloc, sources, speech, rows, number, prefix, drafts, changes,
-    )?;
+    decide_one(alloc, sources, speech, rows, number, prefix, draft, changes)?;
     Ok(true)
 }
 
@@ -214,7 +212,7 @@ fn decide_all(
     ensures count { IfOk result (λ decided. IsNumberOf (is_counted sources.now.ins.now rows.now.rows.items (any_holds (held_by sources.now))) decided.count) }
     ensures whole { IfOk result (λ decided. decided.whole ≡ true) }
 {
-    let mut drafts = Drafts::new(alloc);
+    let mut draft = Draft::new(alloc);
     let mut changes = Vec::new(alloc);
     let mut count = 0usize;
     let Ok(numbers) = u32::try_from(sources.ins.numbers()) else {
@@ -227,7 +225,7 @@ fn decide_all(
             speech,
             rows,
             number,
-            &mut drafts,
+            &mut draft,
             &mut changes,
         )?;
         count += usize::from(decided);
