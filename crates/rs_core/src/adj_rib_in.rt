@@ -23,7 +23,8 @@ use rs_policy::import_note;
 use std::alloc::AllocError;
 use std::sync::Arc;
 
-/// Touches all prefixes that a client holds for another, whose outlet this is.
+/// Touches all prefixes that a client holds for another, whose outlet this is. Nothing is left to touch
+/// once all is.
 fn touch_all_of(outlet: &mut Outlet, tables: &AdjIns, c: usize)
     requires { c < adj_ins.client_count tables.now }
     ensures client { outlet.new.client ≡ outlet.old.client }
@@ -32,8 +33,12 @@ fn touch_all_of(outlet: &mut Outlet, tables: &AdjIns, c: usize)
     ensures touched { AreNumbered outlet.old tables.now → IsTouchedWhereHeld tables.now c outlet.old outlet.new }
     ensures numbered { AreNumbered outlet.old tables.now → AreNumbered outlet.new tables.now }
 {
+    let together = tables.count(c);
     for (prefix, number) in tables.held_by_number(c) {
-        outlet.touch(number, prefix);
+        if outlet.is_all_touched() {
+            return;
+        }
+        outlet.touch(number, prefix, together);
     }
 }
 
@@ -150,7 +155,7 @@ impl Ribs {
         ensures outlet { ChangesOwn c (λ v w. AreNumbered v self.old.tables → IsTouchedAt (prefix ∷ []) v w × AreNumbered w self.old.tables) self.old self.new }
     {
         let outlet = &mut self.outlets[c];
-        outlet.touch(number, prefix);
+        outlet.touch(number, prefix, 1);
     }
 
     // ---- sessions begin and end

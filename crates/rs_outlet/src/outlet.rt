@@ -187,8 +187,9 @@ impl Outlet {
     }
 
     /// What is due at this prefix, which has this number, is decided anew at the next turn. Where
-    /// there is no room for it, everything is.
-    pub fn touch(&mut self, number: u32, prefix: Prefix)
+    /// there is no room for it, everything is. So many are touched `together`: where these are most of
+    /// what the client was told, no more than 4,096 are listed before all may be stale.
+    pub fn touch(&mut self, number: u32, prefix: Prefix, together: usize)
         ensures client { self.new.client ≡ self.old.client }
         ensures extended { self.new.extended ≡ self.old.extended }
         ensures rest { self.new ≡ record self.old { touched = self.new.touched; stale = self.new.stale; numbers = self.new.numbers } }
@@ -198,9 +199,23 @@ impl Outlet {
         ensures numbered { (ins : AdjIns) → AreNumbered self.old ins → number_of ins prefix ≡ Some number → AreNumbered self.new ins }
     {
         if self.speech.is_some() {
-            self.touched
-                .add(number, prefix, self.rows.count() / STALE_SHARE);
+            let most = self.most_listed(together);
+            self.touched.add(number, prefix, most);
         }
+    }
+
+    /// How many prefixes are listed as stale at most, where so many are touched together.
+    fn most_listed(&self, together: usize) -> usize {
+        let most = self.rows.count() / STALE_SHARE;
+        if together > most { 0 } else { most }
+    }
+
+    /// Whether all is touched and may be stale, so that no touch changes anything.
+    pub fn is_all_touched(&self) -> bool
+        ensures touched { IsTrue result → self.now.touched ≡ None }
+        ensures stale { IsTrue result → self.now.stale ≡ None }
+    {
+        self.touched.is_all()
     }
 
     /// Everything is decided anew at the next turn.

@@ -118,6 +118,13 @@ impl Touched {
         };
     }
 
+    /// Whether all is touched.
+    pub(crate) fn is_all(&self) -> bool
+        ensures { result ≡ self.now.all }
+    {
+        self.all
+    }
+
     pub(crate) fn is_empty(&self) -> bool
         ensures { IsTrue result ↔ touched_of self.now.all self.now.prefixes.items ≡ Some set.empty }
     {

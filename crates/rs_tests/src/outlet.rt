@@ -124,7 +124,7 @@ impl Exchange {
         for n in first..first.saturating_add(count) {
             let prefix = prefix(rt, n);
             let number = self.tables.number(prefix).expect(rt, "its number");
-            outlet.touch(number, prefix);
+            outlet.touch(number, prefix, 1);
         }
     }
 

@@ -13,7 +13,7 @@ use Rattle.rs_octets.specs.PrefixOrder.{prefix_order_total}
 use Rattle.rs_adjin.specs.AdjIns.{number_of}
 use Rattle.rs_adjin.specs.declared.adj_ins.AdjIns.{AdjIns}
 use Rattle.rs_outlet.specs.declared.answers.Speech.{Speech}
-use Rattle.rs_outlet.specs.Views.{View, AreNumbered, IsStaleToo, IsStaleTouched, Prefixes, is_touched, touched_at, with_touch}
+use Rattle.rs_outlet.specs.Views.{View, AreNumbered, IsStaleToo, IsStaleTouched, Prefixes, if_up, is_touched, touched_at, with_touch}
 use Rattle.rs_core.specs.Touched.Touches.{touched_with, AreHeld, IsTouchedAt, IsTouchedWhereHeld}
 
 tied : (p : Prefix) → eq_by_cmp prefix_order p p ≡ true
@@ -151,4 +151,42 @@ touching_ends ins c all v w held h numbered = record {
   prefixes = keys_of all;
   held = held;
   touched = subst (λ es. IsTouchedAt (keys_of es) v w) (sym (append-nil h.done) ∙ h.split) (h.touched numbered);
+}
+
+-- ---- nothing is left to touch
+
+all_stays : (p : Prefix) (v : View) → v.touched ≡ None → touched_at p v ≡ v
+all_stays p v all = ap (λ t. record v { touched = t }) (stays v.speech) where
+  stays : (speech : Option Speech) → if_up speech (with_touch v.touched p) v.touched ≡ v.touched
+  stays None = refl
+  stays (Some s) = ap (λ o. with_touch o p) all ∙ sym all
+
+all_stay : (ps : List Prefix) (v : View) → v.touched ≡ None → touched_with ps v ≡ v
+all_stay [] v all = refl
+all_stay (p ∷ ps) v all = ap (touched_with ps) (all_stays p v all) ∙ all_stay ps v all
+
+with_all : (ps qs : List Prefix) (v : View) → touched_with (ps ++ qs) v ≡ touched_with qs (touched_with ps v)
+with_all [] qs v = refl
+with_all (p ∷ ps) qs v = with_all ps qs (touched_at p v)
+
+-- all is touched and stale, so that more touches change nothing
+pub touched_too : (ps qs : List Prefix) (v w : View) → w.touched ≡ None → w.stale ≡ None → IsTouchedAt ps v w → IsTouchedAt (ps ++ qs) v w
+touched_too ps qs v w all stale h = record {
+  is =
+      let touched : (touched_with ps v).touched ≡ None = sym (ap (λ (x : View). x.touched) h.is) ∙ all in
+      h.is ∙ ap (λ (x : View). record x { stale = w.stale; numbers = w.numbers }) (sym (with_all ps qs v ∙ all_stay qs (touched_with ps v) touched));
+  added = λ up q has. ap (λ o. is_touched o q) stale;
+  kept = λ q t. ap (λ o. is_touched o q) stale;
+  stale_touched = h.stale_touched;
+}
+
+keys_of_both : (es fs : List (Prefix × ℕ)) → keys_of (es ++ fs) ≡ keys_of es ++ keys_of fs
+keys_of_both [] fs = refl
+keys_of_both (e ∷ es) fs = ap (λ ps. e.0 ∷ ps) (keys_of_both es fs)
+
+pub touching_stops : (ins : AdjIns) (c : ℕ) (all left : List (Prefix × ℕ)) (v w : View) → AreHeld ins c (keys_of all) → IsTouching ins all left v w → w.touched ≡ None → w.stale ≡ None → AreNumbered v ins → IsTouchedWhereHeld ins c v w
+touching_stops ins c all left v w held h touched stale numbered = record {
+  prefixes = keys_of all;
+  held = held;
+  touched = subst (λ ps. IsTouchedAt ps v w) (sym (keys_of_both h.done left) ∙ ap keys_of h.split) (touched_too (keys_of h.done) (keys_of left) v w touched stale (h.touched numbered));
 }

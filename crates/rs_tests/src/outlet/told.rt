@@ -198,7 +198,7 @@ fn drains(rt: &impl Abort, exchange: &Exchange, outlet: &mut Outlet, want: &[u8]
 fn touch_announced(rt: &impl Abort, tables: &AdjIns, outlet: &mut Outlet) {
     let prefix = announced(rt);
     let number = tables.number(prefix).expect(rt, "its number");
-    outlet.touch(number, prefix);
+    outlet.touch(number, prefix, 1);
 }
 
 #[test]

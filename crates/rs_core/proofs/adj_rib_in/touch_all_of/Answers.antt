@@ -2,7 +2,7 @@ use Rattle.std.proofs.Common.{◌≡◌, List, ℕ, ◌<◌, length, Some, ap, s
 use Rattle.rs_octets.specs.Prefixes.{Prefix}
 use Rattle.rs_adjin.specs.AdjIns.{number_of}
 use Rattle.rs_outlet.specs.Views.{View}
-use Rattle.rs_core.proofs.Touched.Touching.{IsTouching, touching_on, touching_ends, next_number}
+use Rattle.rs_core.proofs.Touched.Touching.{IsTouching, touching_on, touching_ends, touching_stops, next_number}
 use Rattle.rs_core.proofs.adj_rib_in.touch_all_of.Goals as goal
 
 pub loop-prefix-preserved : goal.loop-prefix-preserved
@@ -28,3 +28,9 @@ returns c =
       touched = touching_ends c.args.tables.now c.args.c c.held_by_number-prefix-items.result c.args.outlet.now c.loop-prefix.outlet (record { all = c.held_by_number-prefix-items.ensures.all }) now;
       numbered = now.numbered;
     }
+
+pub returns-then-is_all_touched-clause-touched : goal.returns-then-is_all_touched-clause-touched
+returns-then-is_all_touched-clause-touched c =
+    let now = subst (λ s. IsTouching c.args.tables.now s c.loop-prefix.prefix-iterator c.args.outlet.now c.loop-prefix.outlet) c.into_iter-prefix-iterator.ensures.into_iter_gives c.loop-prefix.invariant in
+    touching_stops c.args.tables.now c.args.c c.held_by_number-prefix-items.result c.loop-prefix.prefix-iterator c.args.outlet.now c.loop-prefix.outlet (record { all = c.held_by_number-prefix-items.ensures.all }) now
+    (c.is_all_touched.ensures.touched c.if-is_all_touched.true) (c.is_all_touched.ensures.stale c.if-is_all_touched.true)
