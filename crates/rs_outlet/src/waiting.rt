@@ -82,6 +82,8 @@ pub(crate) struct Waits {
     pub(crate) gone: usize,
     /// No slot of the first part before it is to be announced.
     pub(crate) news: usize,
+    /// The most slots that there were since their memory was given back, as often as none of them waited.
+    pub(crate) most: usize,
     /// How many are open.
     pub(crate) waiting: usize,
     ghost counted: { open_count slots.items ≡ waiting },
@@ -113,6 +115,7 @@ impl Waits {
             walked: 0,
             gone: 0,
             news: 0,
+            most: 0,
             waiting: 0,
         }
     }

@@ -204,8 +204,19 @@ impl Waits {
         true
     }
 
-    /// These slots wait no more.
+    /// These slots wait no more. Once none does, they are dropped.
     pub(crate) fn give_up(&mut self, chosen: &[usize])
+        ensures chained { (rows : List (Option Row)) → AreChained rows (take self.old.sorted self.old.slots.items) self.old.chains.items → AreChained rows (take self.new.sorted self.new.slots.items) self.new.chains.items }
+        ensures withdrawn { withdrawn_count self.new.slots.items ≤ withdrawn_count self.old.slots.items }
+        ensures capacity { vec_capacity self.new.slots ≡ vec_capacity self.old.slots }
+        ensures slots { (rows : List (Option Row)) (said : Option (List Attribute)) (ps : List Prefix) → AreChosen rows self.old.slots.items said chosen.now ps → (q : Prefix) → open_at q self.new.slots.items ≡ (if list_any (eq_by_cmp prefix_order q) ps then None else open_at q self.old.slots.items) }
+    {
+        self.give_up_all(chosen);
+        self.shed();
+    }
+
+    /// These slots wait no more.
+    fn give_up_all(&mut self, chosen: &[usize])
         ensures chained { (rows : List (Option Row)) → AreChained rows (take self.old.sorted self.old.slots.items) self.old.chains.items → AreChained rows (take self.new.sorted self.new.slots.items) self.new.chains.items }
         ensures withdrawn { withdrawn_count self.new.slots.items ≤ withdrawn_count self.old.slots.items }
         ensures capacity { vec_capacity self.new.slots ≡ vec_capacity self.old.slots }

@@ -19,7 +19,8 @@ use std::alloc::Global;
 /// slot that is added costs a share of the merge that falls as the root of what waits.
 const LATE: usize = 1000;
 
-/// Where more slots than these were there and none of them waits, their memory is given back.
+/// Where more slots than these were there, and more than four times those that are added, and none of them
+/// waits, their memory is given back.
 const MANY: usize = 4096;
 
 /// Empties a vector, and puts fresh room of the same size in its place, which takes no memory before it
@@ -60,11 +61,25 @@ impl Waits {
         if !self.is_crowded(more) {
             return;
         }
-        let were_many = self.slots.len() > MANY;
+        let most = self.most.max(self.slots.len());
         self.merge(Some(self.alloc));
-        if were_many {
+        if most > MANY.max(more.saturating_mul(4)) {
             self.give_back();
         }
+    }
+
+    /// Drops the slots once none of them waits, so that nothing goes over them again. Their memory stays.
+    pub(crate) fn shed(&mut self)
+        ensures slots { (q : Prefix) → open_at q self.new.slots.items ≡ open_at q self.old.slots.items }
+        ensures withdrawn { withdrawn_count self.new.slots.items ≡ withdrawn_count self.old.slots.items }
+        ensures capacity { vec_capacity self.new.slots ≡ vec_capacity self.old.slots }
+        ensures chained { (rows : List (Option Row)) → AreChained rows (take self.old.sorted self.old.slots.items) self.old.chains.items → AreChained rows (take self.new.sorted self.new.slots.items) self.new.chains.items }
+    {
+        if self.waiting > 0 {
+            return;
+        }
+        self.most = self.most.max(self.slots.len());
+        self.merge(None);
     }
 
     /// Gives back the memory that slots took, where there are none. There is still room for as many.
@@ -76,6 +91,7 @@ impl Waits {
         if !self.slots.is_empty() {
             return;
         }
+        self.most = 0;
         renew(self.alloc, &mut self.slots);
         renew(self.alloc, &mut self.chains);
         renew(self.alloc, &mut self.order);

@@ -3,7 +3,7 @@ use Rattle.std.specs.List.{list_any}
 use Rattle.rs_outlet.specs.Pending.Slots.{open_at}
 use Rattle.rs_outlet.proofs.Decided.LocByNumber.{same}
 use Rattle.rs_outlet.proofs.Message.Chosen.{next_chosen, given_up_more, given_up_one, left_one, as_many, take_past}
-use Rattle.rs_outlet.proofs.waiting.Waits.give_up.Goals as goal
+use Rattle.rs_outlet.proofs.waiting.Waits.give_up_all.Goals as goal
 
 pub loop-slot-preserved : goal.loop-slot-preserved
 loop-slot-preserved c =

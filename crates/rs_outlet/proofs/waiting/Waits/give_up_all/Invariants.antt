@@ -9,7 +9,7 @@ use Rattle.rs_outlet.specs.Inside.{AreChained}
 use Rattle.rs_outlet.specs.Pending.Choosing.{AreChosen}
 use Rattle.rs_outlet.proofs.Decided.LocByNumber.{same}
 use Rattle.rs_outlet.proofs.Message.Chosen.{AreLeft}
-use Rattle.rs_outlet.proofs.waiting.Waits.give_up.Given as goal
+use Rattle.rs_outlet.proofs.waiting.Waits.give_up_all.Given as goal
 
 abbrev pub invariant-loop-slot : goal.invariant-loop-slot
 invariant-loop-slot l = record {
