@@ -105,7 +105,7 @@ fn decide_touched(
     ensures { IfOk result (λ changes. AreDecided sources.now.ins.now (due_to (held_by sources.now) sources.now.client speech) rows.now.rows.items (is_numbered_in touched.now) changes.items) }
 {
     let mut draft = Draft::new(alloc);
-    let mut changes = Vec::new(alloc);
+    let mut changes = Vec::with_capacity(alloc, touched.len())?;
     for (number, _) in touched {
         decide_number(
             alloc,

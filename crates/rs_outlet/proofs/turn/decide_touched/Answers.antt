@@ -8,7 +8,7 @@ use Rattle.rs_outlet.proofs.turn.decide_touched.Goals as goal
 pub loop-number-init : goal.loop-number-init
 loop-number-init c =
     none_decided c.args.sources.now.ins.now (due_to (held_by c.args.sources.now) c.args.sources.now.client c.args.speech) c.args.rows.now.rows.items
-    _ _ c.new-changes.ensures.items (λ m. refl)
+    _ _ c.in_ok-changes.ensures.items (λ m. refl)
 
 pub loop-number-preserved : goal.loop-number-preserved
 loop-number-preserved c =
