@@ -17,6 +17,7 @@ use rs_open::Limit;
 use rs_outlet::{Last, Outlet, Turned};
 use rs_policy::{Config, import_note};
 use std::alloc::{AllocError, Global};
+use std::ops::Range;
 use std::process::Abort;
 use std::sync::Arc;
 
@@ -121,10 +122,21 @@ impl Exchange {
 
     /// Touches so many prefixes from this one on.
     fn touch(&self, rt: &impl Abort, outlet: &mut Outlet, first: u32, count: u32) {
-        for n in first..first.saturating_add(count) {
+        self.touch_together(rt, outlet, first..first.saturating_add(count), 1);
+    }
+
+    /// Touches these prefixes, as of so many together.
+    fn touch_together(
+        &self,
+        rt: &impl Abort,
+        outlet: &mut Outlet,
+        prefixes: Range<u32>,
+        together: usize,
+    ) {
+        for n in prefixes {
             let prefix = prefix(rt, n);
             let number = self.tables.number(prefix).expect(rt, "its number");
-            outlet.touch(number, prefix, 1);
+            outlet.touch(number, prefix, together);
         }
     }
 
@@ -183,6 +195,22 @@ fn more_than_4096_touched_are_all(rt: HostRuntime) {
     decides_after(&rt, &exchange, &mut outlet, 4_096, some(4_096));
     decides_after(&rt, &exchange, &mut outlet, 4_097, all(5_000));
     equals(&rt, outlet.last(), Last::Done(all(5_000)));
+    let_go(exchange, outlet);
+}
+
+/// A list of touches is full with 5,120 of them. Where no more than half of all are touched together, it grows.
+#[test]
+fn all_is_touched_where_most_are_touched_together(rt: HostRuntime) {
+    let exchange = Exchange::with_routes(&rt, rt.alloc(), 12_000);
+    let mut outlet = exchange.outlet(&rt, CLIENT);
+    is_so(&rt, outlet.is_all_touched(), "nothing is decided");
+    exchange.decides(&rt, &mut outlet, all(12_000));
+    exchange.touch_together(&rt, &mut outlet, 0..5_121, 6_000);
+    is_so(&rt, !outlet.is_all_touched(), "some are listed");
+    exchange.decides(&rt, &mut outlet, all(12_000));
+    exchange.touch_together(&rt, &mut outlet, 0..5_121, 6_001);
+    is_so(&rt, outlet.is_all_touched(), "none is listed");
+    exchange.decides(&rt, &mut outlet, all(12_000));
     let_go(exchange, outlet);
 }
 
