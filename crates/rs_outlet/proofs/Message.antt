@@ -4,5 +4,6 @@ pub mod Fullest
 pub mod AllWaiting
 pub mod Rising
 pub mod Chosen
+pub mod Updates
 pub mod Collected
 pub mod Beginning

@@ -2,14 +2,14 @@
 //! due, what is to be withdrawn, or the least prefix that is to be announced with all that share its
 //! attributes.
 
-ghost use Rattle.std.specs.Prelude.{◌≡◌, ◌+◌, ◌≤◌, ◌<◌, List, Option, [], true, false, None, Some, length, take, vec_len};
+ghost use Rattle.std.specs.Prelude.{◌≡◌, ◌+◌, ◌≤◌, ◌<◌, List, Option, true, false, None, Some, length, take, vec_len};
 ghost use Rattle.rs_open.specs.Writing.{keepalive};
 ghost use Rattle.rs_open.specs.declared.short.Short.{Short};
 ghost use Rattle.rs_packer.specs.Packed.{IsLongestFront, announcement, withdrawal};
 ghost use Rattle.rs_outlet.specs.Message.Next.{note_octets};
 ghost use Rattle.rs_outlet.specs.Message.Begins.{BeginsUpdate};
 ghost use Rattle.rs_outlet.specs.Views.{WaitsAreExact};
-ghost use Rattle.rs_outlet.specs.Pending.Choosing.{AnyPasses, HaveRoom, IsLeastOf, MayUpdate, NoneWithdrawn, WaitsFor};
+ghost use Rattle.rs_outlet.specs.Pending.Choosing.{AnyPasses, IsLeastOf, MayUpdate, NoneWithdrawn, WaitsFor};
 ghost use Rattle.rs_outlet.specs.Inside.{AreBacked, AreChained, RowsFit};
 ghost use Rattle.rs_outlet.specs.declared.answers.Speech.{Speech};
 ghost use Rattle.rs_outlet.specs.declared.rows.Row.{Row};
@@ -19,7 +19,7 @@ ghost use Rattle.rs_open.specs.Notes.{limit_octets};
 
 use crate::answers::Speech;
 use crate::outlet::Outlet;
-use crate::sizes::most_prefixes;
+use crate::sizes::{most_prefixes, usual_prefixes};
 use crate::table::Rows;
 use crate::waiting::Waits;
 use rs_adjin::AdjIns;
@@ -119,7 +119,7 @@ fn put_announcement(attrs: &Attrs, speech: Speech, prefixes: &[Prefix], out: &mu
     pack_news(attrs, speech.mode, prefixes, speech.limit.octets(), out)
 }
 
-/// Writes the withdrawal of what waits for one from a slot on, and lists the slots.
+/// Writes the withdrawal of what waits for one, and lists the slots.
 fn put_gone(
     waits: &Waits,
     speech: Speech,
@@ -129,25 +129,27 @@ fn put_gone(
 ) -> Packed
     requires room { limit_octets speech.limit ≤ vec_len out.old }
     requires some { AnyPasses is_withdrawn waits.now.slots.items }
-    requires empty { HaveRoom chosen.old front.old }
     requires batch { (limit_octets speech.limit ≤ 23 + vec_capacity chosen.old) × (limit_octets speech.limit ≤ 23 + vec_capacity front.old) }
-    requires none { (chosen.old.items ≡ []) × (front.old.items ≡ []) }
     ensures most { result.octets ≤ limit_octets speech.limit }
     ensures room { vec_len out.new ≡ vec_len out.old }
     ensures chosen { vec_capacity chosen.new ≡ vec_capacity chosen.old }
     ensures front { vec_capacity front.new ≡ vec_capacity front.old }
     ensures update { (rows : List (Option Row)) → MayUpdate speech rows waits.now.slots.items chosen.new.items front.new.items out.new.items result }
 {
-    let room = most_prefixes(speech.limit);
-    waits.collect_withdrawn(room, chosen, front);
+    let usual = usual_prefixes(speech.limit);
+    waits.choose_withdrawn(usual, chosen, front);
     if front.is_empty() {
         return NOTHING;
     }
+    let packed = put_withdrawal(front, speech.limit, out);
+    if packed.prefixes < usual {
+        return packed;
+    }
+    waits.choose_withdrawn(most_prefixes(speech.limit), chosen, front);
     put_withdrawal(front, speech.limit, out)
 }
 
-/// Writes the announcement of what waits for the attributes of a row from a slot on, and lists the
-/// slots.
+/// Writes the announcement of what waits for these attributes, and lists the slots.
 fn put_news(
     rows: &Rows,
     waits: &mut Waits,
@@ -163,9 +165,7 @@ fn put_news(
     requires backed { AreBacked rows.now.rows.items waits.old.slots.items }
     requires chained { AreChained rows.now.rows.items (take waits.old.sorted waits.old.slots.items) waits.old.chains.items }
     requires fit { RowsFit speech rows.now.rows.items }
-    requires empty { HaveRoom chosen.old front.old }
     requires batch { (limit_octets speech.limit ≤ 23 + vec_capacity chosen.old) × (limit_octets speech.limit ≤ 23 + vec_capacity front.old) }
-    requires none { (chosen.old.items ≡ []) × (front.old.items ≡ []) }
     ensures most { result.octets ≤ limit_octets speech.limit }
     ensures room { vec_len out.new ≡ vec_len out.old }
     ensures chosen { vec_capacity chosen.new ≡ vec_capacity chosen.old }
@@ -175,12 +175,15 @@ fn put_news(
     ensures capacity { vec_capacity waits.new.slots ≡ vec_capacity waits.old.slots }
     ensures update { MayUpdate speech rows.now.rows.items waits.old.slots.items chosen.new.items front.new.items out.new.items result }
 {
-    let room = most_prefixes(speech.limit);
-    let passed = waits.collect_announced(rows, attrs, room, chosen, front);
-    waits.note_passed(passed.0);
-    waits.note_walked(passed.1);
     // for the prover: they are legal
     attributes_are_legal(attrs);
+    let usual = usual_prefixes(speech.limit);
+    waits.choose_announced(rows, attrs, usual, chosen, front);
+    let packed = put_announcement(attrs, speech, front, out);
+    if packed.prefixes < usual {
+        return packed;
+    }
+    waits.choose_announced(rows, attrs, most_prefixes(speech.limit), chosen, front);
     put_announcement(attrs, speech, front, out)
 }
 
@@ -197,9 +200,7 @@ fn put_update(
     requires backed { AreBacked rows.now.rows.items waits.old.slots.items }
     requires chained { AreChained rows.now.rows.items (take waits.old.sorted waits.old.slots.items) waits.old.chains.items }
     requires fit { RowsFit speech rows.now.rows.items }
-    requires empty { HaveRoom chosen.old front.old }
     requires batch { (limit_octets speech.limit ≤ 23 + vec_capacity chosen.old) × (limit_octets speech.limit ≤ 23 + vec_capacity front.old) }
-    requires none { (chosen.old.items ≡ []) × (front.old.items ≡ []) }
     ensures most { result.octets ≤ limit_octets speech.limit }
     ensures room { vec_len out.new ≡ vec_len out.old }
     ensures chosen { vec_capacity chosen.new ≡ vec_capacity chosen.old }
@@ -264,8 +265,6 @@ impl Outlet {
         ensures rest { self.new ≡ record self.old { told = self.new.told; flight = self.new.flight; marked = self.new.marked; waits = self.new.waits } }
     {
         self.asked = false;
-        self.front.clear();
-        self.chosen.clear();
         self.waits.prepare(&self.rows, ins);
         let packed = put_update(
             &self.rows,

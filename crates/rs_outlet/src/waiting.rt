@@ -76,7 +76,7 @@ pub(crate) struct Waits {
     pub(crate) order: Vec<Keyed>,
     /// Slots are chained by their very attributes, and not by the hash of these.
     pub(crate) exact: bool,
-    /// How many slots messages went through slot by slot since the first part was made.
+    /// What messages went through slot by slot since the first part was made, in slots.
     pub(crate) walked: usize,
     /// No slot of the first part before it is to be withdrawn.
     pub(crate) gone: usize,

@@ -1,6 +1,6 @@
 -- The prefixes listed for a message are those of all slots that pass a test, as many as there is room for; and what is the longest front
 -- of them that fits is the longest front of all.
-use Rattle.std.proofs.Common.{◌≡◌, ◌+◌, ◌<◌, ◌≤◌, ℕ, zero, suc, Bool, true, false, cond, List, [], ◌∷◌, length, take, get_or, length-append, sym, ap, ◌∙◌, subst, arith, inl, inr}
+use Rattle.std.proofs.Common.{◌≡◌, ◌+◌, ◌<◌, ◌≤◌, ◌⊎◌, ℕ, zero, suc, Bool, true, false, cond, List, [], ◌∷◌, length, take, get_or, length-append, sym, ap, ◌∙◌, subst, arith, inl, inr}
 use Rattle.std.specs.List.{HoldsAt}
 use Rattle.std.proofs.lemmas.Bool.{cases_lt}
 use Rattle.std.proofs.lemmas.List.{get_or_default, length-take-le, take-take}
@@ -56,9 +56,9 @@ announcements_take m mode ps =
     let size : length (announcement m mode ps) ≡ 23 + length (spelt m mode) + length (prefixes_octets ps) = update_length (spelt m mode) ps in
     omega (arith, size, an_octet_each ps)
 
--- what is listed is more than fits, or all
-pub longest_of_all : (message : List Prefix → List ℕ) (limit room : ℕ) (all ps : List Prefix) (n : ℕ) → TakesOctets message → limit ≤ 23 + room → ps ≡ take room all → IsLongestFront message limit ps n → AreAsManyAsFit message limit all (take n ps)
-longest_of_all message limit room all ps n takes fits is longest =
+-- what is listed is more than fits, or all: fewer of them fit than were to be listed, or no message has more
+pub longest_of_all : (message : List Prefix → List ℕ) (limit room : ℕ) (all ps : List Prefix) (n : ℕ) → TakesOctets message → (n < room) ⊎ (limit ≤ 23 + room) → ps ≡ take room all → IsLongestFront message limit ps n → AreAsManyAsFit message limit all (take n ps)
+longest_of_all message limit room all ps n takes ends is longest =
     let sizes = taken room all in
     let long : length ps ≡ length (take room all) = ap length is in
     let same : (k : ℕ) → k ≤ room → take k ps ≡ take k all = λ k less. ap (take k) is ∙ take-take k room all less in
@@ -76,8 +76,12 @@ longest_of_all message limit room all ps n takes fits is longest =
                 | inl short ↦ absurd (let s : length all ≤ length (take room all) = sizes.2 short in omega (arith, s, last, long, more))
                 | inr full ↦ omega (arith, full, long, last)
               ] in
-              let next : length (take (n + 1) all) ≡ n + 1 = length-take-le (n + 1) all (omega (arith, more)) in
-              omega (arith, takes (take (n + 1) all), next, whole, fits)
+              elim ends [
+                | inl fewer ↦ absurd (omega (arith, fewer, whole))
+                | inr fits ↦
+                    let next : length (take (n + 1) all) ≡ n + 1 = length-take-le (n + 1) all (omega (arith, more)) in
+                    omega (arith, takes (take (n + 1) all), next, whole, fits)
+              ]
         ];
       });
     }

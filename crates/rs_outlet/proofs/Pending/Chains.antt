@@ -157,9 +157,6 @@ shares_other rows m z ne = go z.open refl
 pub not_less : (m : List Attribute) → attributes_cmp m m ≡ Less → ⊥
 not_less m h = let f : Equal ≡ Less = sym (tied_itself attributes_cmp_total m) ∙ h in cc
 
-pub level_at : (m n : List Attribute) → m ≡ n → Equal ≡ attributes_cmp m n
-level_at m n e = sym (ap (attributes_cmp m) (sym e) ∙ tied_itself attributes_cmp_total m)
-
 pub level_is : (m n : List Attribute) → attributes_cmp m n ≡ Equal → m ≡ n
 level_is m n h = (attributes_cmp_decides m n).0 (ap is_eq h)
 

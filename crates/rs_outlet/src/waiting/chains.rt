@@ -132,10 +132,6 @@ fn compare_due(rows: &Rows, slots: &[Wait], a: &Keyed, b: &Keyed) -> Option<Orde
 {
     let first = due_at(rows, slots, a)?;
     let second = due_at(rows, slots, b)?;
-    // most slots of one hash have the same attributes, and that is told sooner than an order
-    if first == second {
-        return Some(Ordering::Equal);
-    }
     Some(first.cmp(second))
 }
 
@@ -282,6 +278,12 @@ fn chain_in_order(
 /// Messages go so many times over what waits, slot by slot, till the parts are made one and chained anew.
 const WALKS: usize = 8;
 
+/// The same where slots are chained by their very attributes, since that takes some ten times as long.
+const EXACT_WALKS: usize = 128;
+
+/// A slot of the same hash counts for so many others, since its attributes are compared in full.
+const COMPARED: usize = 16;
+
 /// A message that passed over more slots of its hash than these was put among attributes that share it.
 const MANY_OF_ONE_HASH: usize = 64;
 
@@ -318,16 +320,19 @@ impl Waits {
         self.chains.clear();
     }
 
-    /// A message went through so many slots of the first part. Attributes that a turn added to the late part
-    /// have no chain there: where messages went over many slots for such, the next one finds one part.
-    pub(crate) fn note_walked(&mut self, walked: usize)
+    /// A message went through so many slots of the first part, and passed over so many of its hash.
+    /// Attributes that a turn added to the late part have no chain there: where messages went over many
+    /// slots for such, the next one finds one part.
+    pub(crate) fn note_walked(&mut self, walked: usize, passed: usize)
         ensures slots { self.new.slots.items ≡ self.old.slots.items }
         ensures sorted { self.new.sorted ≡ self.old.sorted }
         ensures chains { self.new.chains.items ≡ self.old.chains.items }
         ensures capacity { vec_capacity self.new.slots ≡ vec_capacity self.old.slots }
     {
-        self.walked = self.walked.saturating_add(walked);
-        if self.slots.len().saturating_mul(WALKS) < self.walked {
+        let cost = walked.saturating_add(passed.saturating_mul(COMPARED));
+        self.walked = self.walked.saturating_add(cost);
+        let walks = if self.exact { EXACT_WALKS } else { WALKS };
+        if self.slots.len().saturating_mul(walks) < self.walked {
             self.walked = 0;
             self.ready = false;
         }

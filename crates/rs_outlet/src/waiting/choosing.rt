@@ -78,13 +78,26 @@ impl Waits {
         }
     }
 
-    /// Lists what is to be withdrawn, from the least prefix on, as much as there is room for.
-    pub(crate) fn collect_withdrawn(
+    /// Lists what is to be withdrawn and nothing else, from the least prefix on: so many at most.
+    pub(crate) fn choose_withdrawn(
         &self,
-        room: usize,
+        most: usize,
         chosen: &mut Vec<usize>,
         front: &mut Vec<Prefix>,
     )
+        requires { (most ≤ vec_capacity chosen.old) × (most ≤ vec_capacity front.old) }
+        ensures chosen { vec_capacity chosen.new ≡ vec_capacity chosen.old }
+        ensures front { vec_capacity front.new ≡ vec_capacity front.old }
+        ensures are { (rows : List (Option Row)) → AreChosen rows self.now.slots.items None chosen.new.items front.new.items }
+        ensures all { front.new.items ≡ take most (passing is_withdrawn (rising self.now.slots.items)) }
+    {
+        chosen.clear();
+        front.clear();
+        self.collect_withdrawn(most, chosen, front);
+    }
+
+    /// Lists what is to be withdrawn, from the least prefix on, as much as there is room for.
+    fn collect_withdrawn(&self, room: usize, chosen: &mut Vec<usize>, front: &mut Vec<Prefix>)
         ensures chosen { vec_capacity chosen.new ≡ vec_capacity chosen.old }
         ensures front { vec_capacity front.new ≡ vec_capacity front.old }
         ensures are { (rows : List (Option Row)) → AreChosen rows self.now.slots.items None chosen.old.items front.old.items → AreChosen rows self.now.slots.items None chosen.new.items front.new.items }
@@ -135,10 +148,38 @@ impl Waits {
         }
     }
 
+    /// Lists the prefixes that wait for these attributes and nothing else, from the least on: so many at
+    /// most. Notes what was passed over for it.
+    pub(crate) fn choose_announced(
+        &mut self,
+        rows: &Rows,
+        attrs: &Attrs,
+        most: usize,
+        chosen: &mut Vec<usize>,
+        front: &mut Vec<Prefix>,
+    )
+        requires most { (most ≤ vec_capacity chosen.old) × (most ≤ vec_capacity front.old) }
+        requires backed { AreBacked rows.now.rows.items self.old.slots.items }
+        requires chained { AreChained rows.now.rows.items (take self.old.sorted self.old.slots.items) self.old.chains.items }
+        ensures chosen { vec_capacity chosen.new ≡ vec_capacity chosen.old }
+        ensures front { vec_capacity front.new ≡ vec_capacity front.old }
+        ensures are { AreChosen rows.now.rows.items self.old.slots.items (Some attrs.now) chosen.new.items front.new.items }
+        ensures all { front.new.items ≡ take most (passing (shares rows.now.rows.items attrs.now) (rising self.old.slots.items)) }
+        ensures slots { self.new.slots.items ≡ self.old.slots.items }
+        ensures chained { AreChained rows.now.rows.items (take self.new.sorted self.new.slots.items) self.new.chains.items }
+        ensures capacity { vec_capacity self.new.slots ≡ vec_capacity self.old.slots }
+    {
+        chosen.clear();
+        front.clear();
+        let (passed, walked) = self.collect_announced(rows, attrs, most, chosen, front);
+        self.note_passed(passed);
+        self.note_walked(walked, passed);
+    }
+
     /// Lists the prefixes that wait for these attributes, from the least on, as many as there is room for.
     /// Answers how many slots of their hash it passed over, and how many of the first part it went through
     /// that don't wait for them.
-    pub(crate) fn collect_announced(
+    fn collect_announced(
         &self,
         rows: &Rows,
         attrs: &Attrs,

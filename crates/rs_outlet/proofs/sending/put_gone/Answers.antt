@@ -1,33 +1,35 @@
-use Rattle.std.proofs.Common.{◌∙◌, ◌<◌, ◌≤◌, rules, List, None, arith, length, take, inr, ap, subst}
+use Rattle.std.proofs.Common.{◌<◌, arith, length, inl, inr, subst, sym}
 use Rattle.std.proofs.lemmas.Bool.Decides.{nat_tests}
-use Rattle.rs_octets.specs.Prefixes.{Prefix}
 use Rattle.rs_open.specs.Notes.{limit_octets}
-use Rattle.rs_packer.specs.Packed.{IsLongestFront, withdrawal}
-use Rattle.rs_outlet.specs.Pending.Slots.{is_withdrawn, rising}
-use Rattle.rs_outlet.specs.Pending.Choosing.{passing}
-use Rattle.rs_outlet.proofs.Message.Chosen.{none_chosen}
-use Rattle.rs_outlet.proofs.Message.Fullest.{longest_of_all, withdrawals_take}
-use Rattle.rs_outlet.proofs.Message.Rising.{some_withdrawn, withdrawn_first}
+use Rattle.rs_packer.specs.Packed.{withdrawal}
+use Rattle.rs_outlet.proofs.Message.Rising.{some_withdrawn}
+use Rattle.rs_outlet.proofs.Message.Updates.{packed_of, withdraws}
 use Rattle.rs_outlet.proofs.sending.put_gone.Goals as goal
 
 pub returns-then-is_empty-clause-update : goal.returns-then-is_empty-clause-update
 returns-then-is_empty-clause-update c = λ rows.
-    let all = c.collect_withdrawn.ensures.all (search rules) (search rules) c.requires.none.0 c.requires.none.1 in
-    let some : 0 < length c.collect_withdrawn.new.front.items = some_withdrawn c.args.waits.now.slots.items c.args.waits.now.apart c.most_prefixes-room.result c.collect_withdrawn.new.front.items c.most_prefixes-room.ensures.some c.requires.some all in
-    absurd (grind (arith, nat_tests, some, c.is_empty.ensures, c.if-is_empty.true, c.collect_withdrawn.new.front.ok))
+    let front = c.choose_withdrawn.new.front in
+    let some : 0 < length front.items = some_withdrawn c.args.waits.now.slots.items c.args.waits.now.apart c.usual_prefixes-usual.result front.items c.usual_prefixes-usual.ensures.some c.requires.some c.choose_withdrawn.ensures.all in
+    absurd (grind (arith, nat_tests, some, c.is_empty.ensures, c.if-is_empty.true, front.ok))
+
+pub returns-then-packed-usual-clause-update : goal.returns-then-packed-usual-clause-update
+returns-then-packed-usual-clause-update c = λ rows.
+    let listed = c.choose_withdrawn in
+    let packed = c.put_withdrawal-packed in
+    withdraws c.args.speech rows c.args.waits.now.slots.items c.args.waits.now.apart c.usual_prefixes-usual.result listed.new.chosen.items listed.new.front.items packed.new.out.items packed.result
+    (inl (grind (arith, nat_tests, c.if-packed-usual.true))) (listed.ensures.are rows) listed.ensures.all
+    (packed_of withdrawal (limit_octets c.args.speech.limit) c.deref.result.now listed.new.front.items packed.new.out.items packed.result c.deref.ensures.value packed.ensures.some packed.ensures.within packed.ensures.longest packed.ensures.octets)
 
 pub returns-clause-update : goal.returns-clause-update
 returns-clause-update c = λ rows.
-    let ws = c.args.waits.now.slots.items in
-    let all = c.collect_withdrawn.ensures.all (search rules) (search rules) c.requires.none.0 c.requires.none.1 in
-    inr (record {
-      said = None;
-      legal = tt;
-      in_turn = tt;
-      chosen = c.collect_withdrawn.ensures.are rows (none_chosen rows ws None _ _ c.requires.none.0 c.requires.none.1);
-      first = withdrawn_first ws c.args.waits.now.apart c.most_prefixes-room.result c.collect_withdrawn.new.front.items all;
-      written = record { some = c.put_withdrawal.ensures.some; within = subst (λ (xs : List Prefix). c.put_withdrawal.result.prefixes ≤ length xs) c.deref.ensures.value c.put_withdrawal.ensures.within; says = c.put_withdrawal.ensures.octets ∙ ap (λ xs. withdrawal (take c.put_withdrawal.result.prefixes xs)) c.deref.ensures.value };
-      all = longest_of_all withdrawal (limit_octets c.args.speech.limit) _ (passing is_withdrawn (rising ws)) c.collect_withdrawn.new.front.items c.put_withdrawal.result.prefixes withdrawals_take
-          (omega (arith, c.most_prefixes-room.ensures.value)) all
-          (subst (λ xs. IsLongestFront withdrawal (limit_octets c.args.speech.limit) xs c.put_withdrawal.result.prefixes) c.deref.ensures.value c.put_withdrawal.ensures.longest);
-    })
+    let listed = c.choose_withdrawn-2 in
+    let packed = c.put_withdrawal in
+    withdraws c.args.speech rows c.args.waits.now.slots.items c.args.waits.now.apart c.most_prefixes.result listed.new.chosen.items listed.new.front.items packed.new.out.items packed.result
+    (inr (omega (arith, c.most_prefixes.ensures.value))) (listed.ensures.are rows) listed.ensures.all
+    (packed_of withdrawal (limit_octets c.args.speech.limit) c.deref-2.result.now listed.new.front.items packed.new.out.items packed.result c.deref-2.ensures.value packed.ensures.some packed.ensures.within packed.ensures.longest packed.ensures.octets)
+
+pub put_withdrawal-requires-clause-some : goal.put_withdrawal-requires-clause-some
+put_withdrawal-requires-clause-some c =
+    let front = c.choose_withdrawn-2.new.front in
+    let some : 0 < length front.items = some_withdrawn c.args.waits.now.slots.items c.args.waits.now.apart c.most_prefixes.result front.items c.most_prefixes.ensures.some c.requires.some c.choose_withdrawn-2.ensures.all in
+    subst (λ qs. 0 < length qs) (sym c.deref-2.ensures.value) some

@@ -1,47 +1,60 @@
-use Rattle.std.proofs.Common.{◌∙◌, ◌<◌, ◌≤◌, List, Some, length, take, inr, ap, arith, rules, subst, sym}
+use Rattle.std.proofs.Common.{◌≡◌, ◌<◌, ◌≤◌, List, Some, length, take, inl, inr, arith, subst, sym}
+use Rattle.std.proofs.lemmas.Bool.Decides.{nat_tests}
 use Rattle.rs_octets.specs.Prefixes.{Prefix}
-use Rattle.rs_packer.specs.Packed.{IsLongestFront, announcement}
+use Rattle.rs_packer.specs.Packed.{announcement}
+use Rattle.rs_outlet.specs.declared.waiting.Wait.{Wait}
 use Rattle.rs_outlet.specs.Pending.Slots.{rising}
-use Rattle.rs_outlet.specs.Pending.Choosing.{passing, shares}
-use Rattle.rs_outlet.proofs.Message.Chosen.{first_fits, none_chosen}
-use Rattle.rs_outlet.proofs.Message.Fullest.{announcements_take, longest_of_all}
-use Rattle.rs_outlet.proofs.Message.Rising.{announced_first, some_announced}
+use Rattle.rs_outlet.specs.Pending.Choosing.{AreChosen, passing, shares}
+use Rattle.rs_outlet.proofs.Message.Chosen.{first_fits}
+use Rattle.rs_outlet.proofs.Message.Rising.{some_announced}
+use Rattle.rs_outlet.proofs.Message.Updates.{announces, packed_of}
 use Rattle.rs_open.specs.Notes.{limit_octets}
 use Rattle.rs_outlet.proofs.sending.put_news.Goals as goal
 
-pub returns-clause-update : goal.returns-clause-update
-returns-clause-update c =
-    let rows = c.args.rows.now.rows.items in
-    let ws = c.args.waits.now.slots.items in
+pub returns-then-packed-usual-clause-update : goal.returns-then-packed-usual-clause-update
+returns-then-packed-usual-clause-update c =
     let m = c.args.attrs.now in
-    let all = c.collect_announced-passed.ensures.all c.requires.chained c.requires.backed (search rules) (search rules) c.requires.none.0 c.requires.none.1 in
-    inr (record {
-      said = Some m;
-      legal = c.attributes_are_legal.ensures;
-      in_turn = c.requires.in_turn;
-      chosen = c.collect_announced-passed.ensures.are (none_chosen rows ws (Some m) _ _ c.requires.none.0 c.requires.none.1);
-      first = announced_first ws c.args.waits.now.apart c.most_prefixes-room.result c.collect_announced-passed.new.front.items rows m c.requires.some all;
-      written = record { some = c.put_announcement.ensures.some; within = subst (λ (xs : List Prefix). c.put_announcement.result.prefixes ≤ length xs) c.deref.ensures.value c.put_announcement.ensures.within; says = c.put_announcement.ensures.octets ∙ ap (λ xs. announcement m c.args.speech.mode (take c.put_announcement.result.prefixes xs)) c.deref.ensures.value };
-      all = longest_of_all (announcement m c.args.speech.mode) (limit_octets c.args.speech.limit) _ (passing (shares rows m) (rising ws)) c.collect_announced-passed.new.front.items c.put_announcement.result.prefixes (announcements_take m c.args.speech.mode)
-          (omega (arith, c.most_prefixes-room.ensures.value)) all
-          (subst (λ xs. IsLongestFront (announcement m c.args.speech.mode) (limit_octets c.args.speech.limit) xs c.put_announcement.result.prefixes) c.deref.ensures.value c.put_announcement.ensures.longest);
-    })
+    let listed = c.choose_announced in
+    let packed = c.put_announcement-packed in
+    announces c.args.speech c.args.rows.now.rows.items c.args.waits.now.slots.items c.args.waits.now.apart c.usual_prefixes-usual.result listed.new.chosen.items listed.new.front.items packed.new.out.items packed.result
+    (inl (grind (arith, nat_tests, c.if-packed-usual.true))) m c.attributes_are_legal.ensures c.requires.in_turn c.requires.some listed.ensures.are listed.ensures.all
+    (packed_of (announcement m c.args.speech.mode) (limit_octets c.args.speech.limit) c.deref.result.now listed.new.front.items packed.new.out.items packed.result c.deref.ensures.value packed.ensures.some packed.ensures.within packed.ensures.longest packed.ensures.octets)
 
-pub put_announcement-requires-clause-some : goal.put_announcement-requires-clause-some
-put_announcement-requires-clause-some c =
-    let rows = c.args.rows.now.rows.items in
-    let ws = c.args.waits.now.slots.items in
-    let all = c.collect_announced-passed.ensures.all c.requires.chained c.requires.backed (search rules) (search rules) c.requires.none.0 c.requires.none.1 in
-    let some = some_announced ws c.args.waits.now.apart c.most_prefixes-room.result c.collect_announced-passed.new.front.items rows c.args.attrs.now c.requires.some all c.most_prefixes-room.ensures.some in
+pub put_announcement-packed-requires-clause-some : goal.put_announcement-packed-requires-clause-some
+put_announcement-packed-requires-clause-some c =
+    let some = some_announced c.args.waits.now.slots.items c.args.waits.now.apart c.usual_prefixes-usual.result c.choose_announced.new.front.items c.args.rows.now.rows.items c.args.attrs.now c.requires.some c.choose_announced.ensures.all c.usual_prefixes-usual.ensures.some in
     subst (λ (qs : List Prefix). 0 < length qs) (sym c.deref.ensures.value) some
+
+pub put_announcement-packed-requires-clause-fits : goal.put_announcement-packed-requires-clause-fits
+put_announcement-packed-requires-clause-fits c =
+    let listed = c.choose_announced in
+    let some = some_announced c.args.waits.now.slots.items c.args.waits.now.apart c.usual_prefixes-usual.result listed.new.front.items c.args.rows.now.rows.items c.args.attrs.now c.requires.some listed.ensures.all c.usual_prefixes-usual.ensures.some in
+    subst (λ (qs : List Prefix). length (announcement c.args.attrs.now c.args.speech.mode (take 1 qs)) ≤ limit_octets c.args.speech.limit) (sym c.deref.ensures.value)
+    (first_fits c.args.speech c.args.rows.now.rows.items c.args.waits.now.slots.items c.args.attrs.now listed.new.chosen.items listed.new.front.items c.requires.fit listed.ensures.are some)
 
 pub put_announcement-requires-clause-fits : goal.put_announcement-requires-clause-fits
 put_announcement-requires-clause-fits c =
     let rows = c.args.rows.now.rows.items in
-    let ws = c.args.waits.now.slots.items in
-    let ps = c.collect_announced-passed.new.front.items in
-    let are = c.collect_announced-passed.ensures.are (none_chosen rows ws (Some c.args.attrs.now) _ _ c.requires.none.0 c.requires.none.1) in
-    let all = c.collect_announced-passed.ensures.all c.requires.chained c.requires.backed (search rules) (search rules) c.requires.none.0 c.requires.none.1 in
-    let some = some_announced ws c.args.waits.now.apart c.most_prefixes-room.result ps rows c.args.attrs.now c.requires.some all c.most_prefixes-room.ensures.some in
-    subst (λ (qs : List Prefix). length (announcement c.args.attrs.now c.args.speech.mode (take 1 qs)) ≤ limit_octets c.args.speech.limit) (sym c.deref.ensures.value)
-    (first_fits c.args.speech rows ws c.args.attrs.now c.collect_announced-passed.new.chosen.items ps c.requires.fit are some)
+    let m = c.args.attrs.now in
+    let listed = c.choose_announced-2 in
+    let ps = listed.new.front.items in
+    let same = c.choose_announced.ensures.slots in
+    let are : AreChosen rows c.args.waits.now.slots.items (Some m) listed.new.chosen.items ps = subst (λ (ws : List Wait). AreChosen rows ws (Some m) listed.new.chosen.items ps) same listed.ensures.are in
+    let all : ps ≡ take c.most_prefixes.result (passing (shares rows m) (rising c.args.waits.now.slots.items)) = subst (λ (ws : List Wait). ps ≡ take c.most_prefixes.result (passing (shares rows m) (rising ws))) same listed.ensures.all in
+    let some = some_announced c.args.waits.now.slots.items c.args.waits.now.apart c.most_prefixes.result ps rows m c.requires.some all c.most_prefixes.ensures.some in
+    subst (λ (qs : List Prefix). length (announcement m c.args.speech.mode (take 1 qs)) ≤ limit_octets c.args.speech.limit) (sym c.deref-2.ensures.value)
+    (first_fits c.args.speech rows c.args.waits.now.slots.items m listed.new.chosen.items ps c.requires.fit are some)
+
+pub returns-clause-update : goal.returns-clause-update
+returns-clause-update c =
+    let rows = c.args.rows.now.rows.items in
+    let m = c.args.attrs.now in
+    let listed = c.choose_announced-2 in
+    let ps = listed.new.front.items in
+    let same = c.choose_announced.ensures.slots in
+    let packed = c.put_announcement in
+    let are : AreChosen rows c.args.waits.now.slots.items (Some m) listed.new.chosen.items ps = subst (λ (ws : List Wait). AreChosen rows ws (Some m) listed.new.chosen.items ps) same listed.ensures.are in
+    let all : ps ≡ take c.most_prefixes.result (passing (shares rows m) (rising c.args.waits.now.slots.items)) = subst (λ (ws : List Wait). ps ≡ take c.most_prefixes.result (passing (shares rows m) (rising ws))) same listed.ensures.all in
+    announces c.args.speech rows c.args.waits.now.slots.items c.args.waits.now.apart c.most_prefixes.result listed.new.chosen.items ps packed.new.out.items packed.result
+    (inr (omega (arith, c.most_prefixes.ensures.value))) m c.attributes_are_legal.ensures c.requires.in_turn c.requires.some are all
+    (packed_of (announcement m c.args.speech.mode) (limit_octets c.args.speech.limit) c.deref-2.result.now ps packed.new.out.items packed.result c.deref-2.ensures.value packed.ensures.some packed.ensures.within packed.ensures.longest packed.ensures.octets)
