@@ -236,7 +236,7 @@ const WORSE: Rank = Rank {
 };
 
 /// Ranks that are better than `EQUAL` in one respect alone, and worse in all that come behind it.
-const BETTER: [(&str, Rank); 6] = [
+static BETTER: [(&str, Rank); 6] = [
     (
         "preference",
         Rank {
@@ -313,7 +313,7 @@ fn second_lost_by(rt: &impl Abort, first: Rank, second: Rank) -> Option<Step> {
 }
 
 /// Ranks that lose beside `EQUAL`, each worse in one respect and better in those that come later, but for the place.
-const LOSERS: [(Rank, Step, &str); 7] = [
+static LOSERS: [(Rank, Step, &str); 7] = [
     (
         Rank {
             preference: 99,

@@ -37,7 +37,7 @@ fn is_head(rt: &impl Abort, octets: &[u8; 19], allowed: Allowed, length: u16, ki
 }
 
 /// What stands behind the marker of good headers, each with its length and type.
-const HEADS: [([u8; 3], Allowed, u16, Kind); 6] = [
+static HEADS: [([u8; 3], Allowed, u16, Kind); 6] = [
     ([0, 37, 1], PLAIN, 37, Kind::Open),
     ([0, 47, 2], PLAIN, 47, Kind::Update),
     ([0, 21, 3], PLAIN, 21, Kind::Note),
@@ -60,7 +60,7 @@ fn is_refused(rt: &impl Abort, octets: &[u8; 19], allowed: Allowed, fault: Heade
 }
 
 /// What stands behind the marker of headers that are refused, each with its fault.
-const REFUSED: [([u8; 3], Allowed, HeaderFault); 7] = [
+static REFUSED: [([u8; 3], Allowed, HeaderFault); 7] = [
     ([16, 1, 2], PLAIN, HeaderFault::Length(4097)),
     ([0, 20, 4], PLAIN, HeaderFault::Length(20)),
     ([0, 19, 5], PLAIN, HeaderFault::Kind(5)),
@@ -82,7 +82,7 @@ fn refuses_headers(rt: HostRuntime) {
 }
 
 /// Types, each with its number and the least and the greatest length.
-const TYPES: [(Kind, u8, u16, u16); 5] = [
+static TYPES: [(Kind, u8, u16, u16); 5] = [
     (Kind::Open, 1, 29, 4096),
     (Kind::Update, 2, 23, 65535),
     (Kind::Note, 3, 21, 65535),
@@ -247,7 +247,7 @@ fn rises(rt: &impl Abort, first: Prefix, second: Prefix) {
 }
 
 /// Bits and lengths of prefixes, of which each first is less than its second.
-const RISING: [[(u32, u8); 2]; 5] = [
+static RISING: [[(u32, u8); 2]; 5] = [
     [(0, 0), (0, 8)],
     [(0, 8), (0x0a00_0000, 8)],
     [(0x0a00_0000, 8), (0x0a00_0000, 24)],

@@ -82,7 +82,7 @@ const KEEPALIVE: (Call, Act) = (Call::Hear(Heard::Keepalive), Act::None);
 
 const SAY_KEEPALIVE: Act = Act::Say(Short::Keepalive);
 
-const COMES_UP: [(Call, Act); 2] = [
+static COMES_UP: [(Call, Act); 2] = [
     (Call::Open(OPEN), SAY_KEEPALIVE),
     (Call::Hear(Heard::Keepalive), Act::Up),
 ];
@@ -99,7 +99,7 @@ fn play_in_open_sent(rt: &impl Abort, name: &str, script: &[(Call, Act)]) {
     play(rt, name, &mut connected(rt, SETTINGS), script);
 }
 
-const CONFIRMS: [(Call, Act); 1] = [(Call::Open(OPEN), SAY_KEEPALIVE)];
+static CONFIRMS: [(Call, Act); 1] = [(Call::Open(OPEN), SAY_KEEPALIVE)];
 
 /// What is done in OpenConfirm.
 fn play_in_open_confirm(rt: &impl Abort, name: &str, script: &[(Call, Act)]) {

@@ -45,7 +45,7 @@ fn reads_route_refreshes(rt: HostRuntime) {
 }
 
 /// Bodies that are good, each with what it says.
-const OPENS: [(&str, Open); 11] = [
+static OPENS: [(&str, Open); 11] = [
     ("04 fbf0 005a c000020b 08 0206 4104 0000fbf0", A),
     (
         "04 5ba0 005a c000020b 08 0206 4104 fa56ea00",
@@ -97,7 +97,7 @@ fn reads_opens(rt: HostRuntime) {
 }
 
 /// Bodies that are refused, each with its first fault.
-const REFUSED: [(&str, OpenFault); 19] = [
+static REFUSED: [(&str, OpenFault); 19] = [
     ("03 fbf0 005a c000020b 00", OpenFault::Version),
     ("05 fbf0 0002 00000000 02 0100", OpenFault::Version),
     (
@@ -186,7 +186,7 @@ fn refuses_opens(rt: HostRuntime) {
 /// extended messages (8654), 9 role (9234), 64 graceful restart (4724), 65 four-octet AS numbers
 /// (6793), 69 ADD-PATH (7911), 70 enhanced route refresh (7313), 71 long-lived graceful restart
 /// (9494), 73 host name and 128 route refresh before its RFC, which have none.
-const OF_OTHERS: [(&str, Open); 4] = [
+static OF_OTHERS: [(&str, Open); 4] = [
     (
         // BIRD: one parameter
         "04 fbf0 00f0 c000020b 2b 0229 0104 0001 0001 0200 0600 4006 0078 0001 01 00 4104 0000fbf0 \

@@ -31,7 +31,7 @@ fn is_written(rt: &impl Abort, out: &[u8], size: usize, octets: &[u8], of: &str)
 /// An OPEN: the AS number, multiprotocol, extended, refresh, and the octets behind the marker.
 type Row = (u32, bool, bool, bool, &'static str);
 
-const OPENS: [Row; 16] = [
+static OPENS: [Row; 16] = [
     (
         64500,
         false,

@@ -76,7 +76,7 @@ const LONG: Settings = Settings {
 };
 
 /// OPENs that are taken, each with what holds from then on.
-const TAKEN: [(&str, Settings, &[u8], Mode, Limit); 6] = [
+static TAKEN: [(&str, Settings, &[u8], Mode, Limit); 6] = [
     ("two octets", SETTINGS, OPEN_TWO, Mode::Two, Limit::Short),
     ("four octets", SETTINGS, OPEN, Mode::Four, Limit::Short),
     ("a large AS", LARGE, OPEN_LARGE, Mode::Four, Limit::Short),

@@ -191,7 +191,7 @@ fn commands_in_each_state(rt: HostRuntime) {
 }
 
 /// Calls of which nothing comes where there is no session.
-const DEAF: [(Call, Act); 5] = [
+static DEAF: [(Call, Act); 5] = [
     (Call::Open(OPEN), Act::None),
     (Call::Hear(Heard::Keepalive), Act::None),
     (Call::Hear(Heard::Note), Act::None),

@@ -65,7 +65,7 @@ fn the_hold_time_used_is_the_smaller(rt: HostRuntime) {
 }
 
 /// A client without a Hold Time, whose session no moment ends.
-const NO_HOLD_TIME: [(Call, Act); 5] = [
+static NO_HOLD_TIME: [(Call, Act); 5] = [
     (Call::Open(OPEN_HOLD_0), SAY_KEEPALIVE),
     (Call::At(400), Act::None),
     (Call::Hear(Heard::Keepalive), Act::Up),

@@ -16,7 +16,7 @@ fn withdraws(kind: u8, cause: Cause) -> Faulted {
     }
 }
 
-const OF_NLRI: [(&str, &str, u8, Cause); 6] = [
+static OF_NLRI: [(&str, &str, u8, Cause); 6] = [
     (
         "no ORIGIN",
         "0000 0010 40020602010000fbf0 400304c000020b 18c63364",
@@ -74,7 +74,7 @@ fn why_routes_are_treated_as_withdraw(rt: HostRuntime) {
 }
 
 /// UPDATEs that announce nothing, or with all that is mandatory.
-const WHOLE: [&str; 4] = [
+static WHOLE: [&str; 4] = [
     "0000 0000",
     "0004 18c63364 0000",
     "0000 0004 40010100",
@@ -89,7 +89,7 @@ fn nothing_is_missing_where_nothing_is_announced(rt: HostRuntime) {
 }
 
 /// 2001:db8::/32, beside a route of IPv4 and alone.
-const OF_IPV6: [&str; 2] = [
+static OF_IPV6: [&str; 2] = [
     "0000 0031 A 800e1a 0002 01 10 20010db8000000000000000000000001 00 2020010db8 18c63364",
     "0000 001d 800e1a 0002 01 10 20010db8000000000000000000000001 00 2020010db8",
 ];

@@ -2,7 +2,7 @@
 
 use super::*;
 
-const OF_RESETS: [Row; 16] = [
+static OF_RESETS: [Row; 16] = [
     ("no octets", "", "Reset(3, 1)"),
     ("half a length", "0000 00", "Reset(3, 1)"),
     (
@@ -82,7 +82,7 @@ fn each_reset(rt: HostRuntime) {
     hold(&rt, rt.alloc(), Mode::Four, &OF_RESETS);
 }
 
-const OF_TWO_RESETS: [Row; 10] = [
+static OF_TWO_RESETS: [Row; 10] = [
     (
         "lengths before a cut prefix",
         "0002 18c6 0005 4001",

@@ -2,7 +2,7 @@
 
 use super::*;
 
-const OF_ONE_ROUTE: [Row; 17] = [
+static OF_ONE_ROUTE: [Row; 17] = [
     (
         "no field holds anything",
         "0000 0000",
@@ -95,7 +95,7 @@ fn one_route_by_its_attributes(rt: HostRuntime) {
     hold(&rt, rt.alloc(), Mode::Four, &OF_ONE_ROUTE);
 }
 
-const OF_SETS: [Row; 13] = [
+static OF_SETS: [Row; 13] = [
     (
         "a prefix in both fields",
         "0004 18c63364 0014 A 18c63364",
@@ -168,7 +168,7 @@ fn each_prefix_once_in_one_list(rt: HostRuntime) {
     hold(&rt, rt.alloc(), Mode::Four, &OF_SETS);
 }
 
-const OF_TWO_OCTET_PEERS: [Row; 4] = [
+static OF_TWO_OCTET_PEERS: [Row; 4] = [
     (
         "AS4_PATH behind the front of AS_PATH",
         "0000 0023 40010100 4002080203fbf05ba05ba0 400304c000020b c0110a0202fa56ea00fa56ea01 18c63364",
