@@ -49,8 +49,8 @@ hostile: ## play hostile members and accidents to the server and to others, and 
 attack: ## try the wrong programs of attacks/, beyond those of the gate (CRATE=rs_octets: those of one crate; CRATE=rs_octets/NAME: NAME.edit alone)
 	@python3 tools/attack.py $(CRATE)
 
-fuzz: ## play 2,000 random sessions against the plain function of the tests (CASES=100, SEED=7; make test first)
-	@python3 tools/fuzz.py crates/rs_replay/out/rs_replay crates/rs_program_tests/out/rs_program_tests_tests $(or $(CASES),2000) $(SEED)
+fuzz: ## play 2,000 random sessions against the plain function of tools/plain (CASES=100, SEED=7; make test first)
+	@python3 tools/fuzz.py crates/rs_replay/out/rs_replay $(or $(CASES),2000) $(SEED)
 
 examples: ## compare the example configurations with those that are tested
 	@python3 tools/check_examples.py

@@ -1,7 +1,7 @@
 #!/usr/bin/env python3
-"""Plays random sessions to a built rs_replay, and holds what its clients hold against the plain function of the tests.
+"""Plays random sessions to a built rs_replay, and holds what its clients hold against the plain function.
 
-fuzz.py PROGRAM TESTS [CASES [SEED]]
+fuzz.py PROGRAM [CASES [SEED]]
 
 A case is a configuration (rules, lists, limits, long messages, ROUTE-REFRESH) and a session: members that come up, as two-octet
 or four-octet peers, and come again; routes, withdrawals and faults, in any pieces; turns, rooms of any size, losses, moments, the
@@ -15,7 +15,7 @@ import sys
 import time
 import tomllib
 
-from plays.holding import ask, case, drain, play
+from plays.holding import asked, drain, play
 from results import end, tell
 
 CASES = 100
@@ -87,6 +87,16 @@ class Peer:
         pieces = [numbers[at : at + 255] for at in range(0, len(numbers), 255)]
         return b"".join(bytes([kind, len(it)]) + b"".join(struct.pack(code, one) for one in it) for it in pieces)
 
+    def as4(self, draw):
+        """What a two-octet peer says in AS4_PATH and AS4_AGGREGATOR (RFC 6793, 4.2.2), not all of it as it should be."""
+        field = b""
+        if draw.random() < 0.4:
+            pieces = [(draw.choice([2, 2, 2, 1, 3]), draw.sample([BIG, 64999, 65000, 64497], draw.choice([1, 1, 2, 3]))) for _ in range(draw.choice([1, 1, 2]))]
+            field += attribute(0xC0, 17, b"".join(struct.pack(f">BB{len(it)}I", kind, len(it), *it) for kind, it in pieces))
+        if draw.random() < 0.3:
+            field += attribute(0xC0, 18, struct.pack(">II", BIG, self.address))
+        return field
+
     def attributes(self, draw):
         """The attributes of a route, not all of them as they should be."""
         field = attribute(0x40, 1, bytes([draw.choice([0, 0, 1, 2, 3] if draw.random() < 0.2 else [0, 0, 2])]))
@@ -96,7 +106,9 @@ class Peer:
         if draw.random() < 0.4:
             field += attribute(0x80, 4, struct.pack(">I", draw.randrange(3)))
         if draw.random() < 0.2:
-            field += attribute(0xC0, 7, struct.pack(">II" if self.is_four else ">HI", 64496, self.address))
+            field += attribute(0xC0, 7, struct.pack(">II" if self.is_four else ">HI", 64496 if self.is_four else draw.choice([64496, AS_TRANS]), self.address))
+        if not self.is_four:
+            field += self.as4(draw)
         if draw.random() < 0.7:
             chosen = draw.sample(COMMUNITIES, draw.choice([1, 4, 8]))
             field += attribute(0xC0, 8, b"".join(struct.pack(">HH", *map(int, it.split(":"))) for it in chosen))
@@ -260,23 +272,24 @@ def played(program, text, lines, workers):
     return play(program, text, [*lines, *drain(tomllib.loads(text))], workers)
 
 
-def differs(program, tests, text, lines, workers):
+def held(one):
+    """What is wrong with a session that was played, or None, and how many routes its clients hold."""
+    return (f"status {one.status}: {one.errors.strip()}", 0) if one.status else asked(one)
+
+
+def differs(program, text, lines, workers):
     """What is wrong with a session, or None."""
-    one = played(program, text, lines, workers)
-    if one.status:
-        return f"status {one.status}: {one.errors.strip()}"
-    (answer,) = ask(tests, [list(case(one))])
-    return None if answer and answer.startswith("same") else str(answer)
+    return held(played(program, text, lines, workers))[0]
 
 
-def smallest(program, tests, text, lines, workers):
+def smallest(program, text, lines, workers):
     """The session without each line that can be left out while it still differs."""
     size = len(lines) // 2
     while size:
         at = 0
         while at < len(lines):
             fewer = lines[:at] + lines[at + size :]
-            if differs(program, tests, text, fewer, workers):
+            if differs(program, text, fewer, workers):
                 lines = fewer
             else:
                 at += size
@@ -284,32 +297,28 @@ def smallest(program, tests, text, lines, workers):
     return lines
 
 
-def fuzz(program, tests, cases, seed):
+def fuzz(program, cases, seed):
     """The results of so many cases."""
-    for file in (program, tests):
-        if not file.exists():
-            yield "random sessions", f"{file} isn't there"
-            return
-    draw, tried = random.Random(seed), []
+    if not program.exists():
+        yield "random sessions", f"{program} isn't there"
+        return
+    draw, all_routes = random.Random(seed), 0
     for number in range(cases):
         text, lines = session(draw)
         workers = draw.choice([1, 2, 3])
-        tried.append((text, lines, workers, played(program, text, lines, workers)))
-    answers, held = ask(tests, [list(case(it[3])) for it in tried]), 0
-    for number, (answer, (text, lines, workers, one)) in enumerate(zip(answers, tried)):
-        if one.status or answer is None or not answer.startswith("same"):
-            least = smallest(program, tests, text, lines, workers)
-            wrong = differs(program, tests, text, least, workers)
+        wrong, routes = held(played(program, text, lines, workers))
+        all_routes += routes
+        if wrong:
+            least = smallest(program, text, lines, workers)
+            wrong = differs(program, text, least, workers)
             yield f"random session {number} of seed {seed}", "\n".join([str(wrong), text, *least])
-        else:
-            held += int(answer.split()[1])
-    yield f"{cases} random sessions of seed {seed}, {held} routes held", None if held else "no route was held"
+    yield f"{cases} random sessions of seed {seed}, {all_routes} routes held", None if all_routes else "no route was held"
 
 
 if __name__ == "__main__":
-    if len(sys.argv) < 3:
+    if len(sys.argv) < 2:
         sys.exit(__doc__)
-    number = int(sys.argv[3]) if len(sys.argv) > 3 else CASES
-    chosen = int(sys.argv[4]) if len(sys.argv) > 4 else time.time_ns() % 2**32
+    number = int(sys.argv[2]) if len(sys.argv) > 2 else CASES
+    chosen = int(sys.argv[3]) if len(sys.argv) > 3 else time.time_ns() % 2**32
     print(f"seed {chosen}", flush=True)
-    end(*tell(fuzz(pathlib.Path(sys.argv[1]).resolve(), pathlib.Path(sys.argv[2]).resolve(), number, chosen)))
+    end(*tell(fuzz(pathlib.Path(sys.argv[1]).resolve(), number, chosen)))

@@ -5,7 +5,7 @@ Runs `rt ci` at the top of the repository and passes on what it prints. Meanwhil
 seconds, at the processes of the prover and of the compilers; from that it prints how long each crate's
 proofs, tests and edits took. Then it plays each session of examples/sessions to the built rs_replay, and two members to the
 built rs_served, records one and plays the record, and gives it configurations to check. It holds what the members of these sessions are sent against the plain
-function of the tests: of their fronts, with losses, cut and changed octets, refused memory and without threads, and of random
+function (`plain`): of their fronts, with losses, cut and changed octets, refused memory and without threads, and of random
 sessions. It plays hostile members to the built rs_served, those whose play takes seconds. It runs tests
 of calls that take no memory where requests are counted and a test of outlets where memory is refused, compares the example
 configurations with those that are tested, and looks whether what the pages name is there. The last line is 'N passed, M failed'
@@ -160,12 +160,12 @@ def tell_time(what, started, used):
 
 def play_all(crates, folder):
     """The result of each check on what was built."""
-    replay, tests = crates / "rs_replay/out/rs_replay", crates / "rs_program_tests/out/rs_program_tests_tests"
+    replay = crates / "rs_replay/out/rs_replay"
     yield from play(replay, folder)
     yield from play_ignored(replay, folder)
-    yield from play_sweeps(replay, tests, folder)
-    yield from play_refused(replay, tests, folder)
-    yield from fuzz(replay, tests, CASES, time.time_ns() % 2**32)
+    yield from play_sweeps(replay, folder)
+    yield from play_refused(replay, folder)
+    yield from fuzz(replay, CASES, time.time_ns() % 2**32)
     yield from play_rules(replay, ROUTES, SEED)
     yield from play_members(crates / "rs_served/out/rs_served")
     yield from play_records(crates / "rs_served/out/rs_served", replay)

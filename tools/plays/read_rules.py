@@ -1,7 +1,7 @@
 """What rules make of a route: a reading of "A rule" of docs/OPERATING.md in plain Python, for `rules`.
 
 It stands on that page's words and on the standards behind them, and shares nothing with the server, its definitions or the plain
-function of the tests: AS_PATH and its length (RFC 4271, 4.3 and 9.1.2.2), COMMUNITIES (RFC 1997), LARGE_COMMUNITY (RFC 8092, 3),
+function (`plain`): AS_PATH and its length (RFC 4271, 4.3 and 9.1.2.2), COMMUNITIES (RFC 1997), LARGE_COMMUNITY (RFC 8092, 3),
 range operators (RFC 2622, 2), what a route server leaves as it is (RFC 7947, 2.2), and routes that are treated as withdrawn
 (RFC 7606, 3 and 7).
 

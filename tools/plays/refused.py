@@ -1,13 +1,13 @@
 """Plays recorded sessions to a built rs_replay where a request for memory is refused, and says what went otherwise than it must.
 
-play.py refused PROGRAM TESTS FOLDER
+play.py refused PROGRAM FOLDER
 
 Of the requests for memory of a session, by 1 and by 2 workers, each is refused in a run of its own. It must show as a
 line `memory NAME`, with `close NAME` where octets came and without at a turn; as `rules refused: out of memory`; or as status 3
 with the words `out of memory`, and then what was written is a front of what is written else. Two kinds show as nothing: the
 one request of READING, and those by which a thread is started for a turn by 2 workers, which is then done on one. Behind the
 session the clients that were lost come again and say again what they said, a turn and room for all follow, and each
-Established client must hold what the plain function of the tests says (`holding.py`).
+Established client must hold what the plain function says (`holding.py`).
 """
 import collections
 import pathlib
@@ -15,7 +15,7 @@ import subprocess
 import tempfile
 import tomllib
 
-from .holding import ask, case, drain, play
+from .holding import asked, drain, play
 from .preloading import built, preloaded
 from .sweeps import session
 
@@ -116,44 +116,40 @@ class Refusals:
 OF_A_THREAD = 1
 
 
-def sweep(program, tests, library, folder, name, workers):
+def sweep(program, library, folder, name, workers):
     """How the refusals of a session show, and what is wrong."""
     refusals = Refusals(program, library, *session(folder, name), workers)
-    kinds, cases, numbers = collections.Counter(), [], []
+    kinds, otherwise = collections.Counter(), []
     for number in range(1, refusals.counts[-1] + 1):
         played = refusals.play_refused(number)
         kinds[refusals.kind(number, played)] += 1
-        if not played.status:
-            numbers.append(number)
-            cases.append(list(case(played)))
+        if not played.status and (found := asked(played).wrong):
+            otherwise.append(f"{found} where request {number} is refused")
     most = {
         "in a line": number,
         "by status 3": number,
         "nowhere, by the words": READING,
         "nowhere, by a thread": OF_A_THREAD * refusals.lines.count("turn"),
     }
-    wrong = [f"{count} shown {kind}" for kind, count in kinds.items() if count > most.get(kind, 0)]
-    for number, answer in zip(numbers, ask(tests, cases)):
-        if answer is None or not answer.startswith("same"):
-            wrong.append(f"{answer} where request {number} is refused")
+    wrong = [f"{count} shown {kind}" for kind, count in kinds.items() if count > most.get(kind, 0)] + otherwise
     told = ", ".join(f"{count} {kind}" for kind, count in sorted(kinds.items()))
     return f"memory refused, {name} by {workers} workers: {told}", "\n".join(wrong) or None
 
 
-def play_refused(program, tests, folder):
+def play_refused(program, folder):
     """The results of all."""
     try:
         with tempfile.TemporaryDirectory() as room:
             library = built(room, "refuse_memory")
             for name in REFUSED:
                 for workers in (1, 2):
-                    yield sweep(program, tests, library, folder, name, workers)
+                    yield sweep(program, library, folder, name, workers)
     except (OSError, subprocess.SubprocessError) as fault:
         yield "memory refused", str(fault)
 
 
 def by_words(words):
     """The results, by the words of a command behind the play's name; None where these are others."""
-    if len(words) == 3:
+    if len(words) == 2:
         return play_refused(*(pathlib.Path(it).resolve() for it in words))
     return None

@@ -1,8 +1,8 @@
 """Plays many forms of the recorded sessions to a built rs_replay, and says where clients hold otherwise than they are to.
 
-play.py sweeps PROGRAM TESTS FOLDER
+play.py sweeps PROGRAM FOLDER
 
-TESTS is the built tests of rs_program_tests, whose plain function says what each client is to hold (`holding.py`).
+The plain function says what each client is to hold (`holding.py`).
 
 - Each front of each recorded session of FOLDER.
 - Wrong readings of the plain function, each without one of its sentences: some recorded session must find each.
@@ -19,16 +19,17 @@ import pathlib
 import struct
 import tomllib
 
-from .holding import AT_ONCE, Played, ask, case, drain, names, play
+from plain import SENTENCES
+
+from .holding import Played, asked, drain, names, play
 from .ignored import LISTED
 from .read_rules import AS_PATH, read_attributes
 
 
-# The sentences of the definitions that some recorded session needs.
-READINGS = (
-    "last-mention", "established", "of-another", "servers-as", "import", "export", "receiver", "stripped", "fits",
-    "preference", "path", "origin", "med", "identifier", "address",
-)
+# The sentences of the definitions that some recorded session needs: in none do two clients have one address.
+READINGS = [it for it in SENTENCES if it != "place"]
+# How many sessions are played one behind the other in one run.
+AT_ONCE = 200
 MARKER = "ff" * 16
 KEEPALIVE = MARKER + "001304"
 # The OPENs of the members of examples/four_members.toml, and a's as a two-octet peer.
@@ -68,10 +69,8 @@ def sessions(folder):
 class Sweep:
     """Sessions that are played, in which links are closed for faults alone or not, and what the plain function says of each."""
 
-    def __init__(self, program, tests, is_closed_for_faults=False):
-        self.program, self.tests, self.is_closed_for_faults = program, tests, is_closed_for_faults
-        # Those of which the plain function was not asked yet, each with its name.
-        self.played = []
+    def __init__(self, program, is_closed_for_faults=False):
+        self.program, self.is_closed_for_faults = program, is_closed_for_faults
         self.counts, self.held = collections.Counter(), collections.Counter()
         self.wrong = collections.defaultdict(list)
 
@@ -98,39 +97,28 @@ class Sweep:
         if played.status:
             self.wrong[name].append(f"status {played.status}: {played.errors.strip()}")
         self.counts[name] += 1
-        self.played.append((name, played))
-        if len(self.played) == AT_ONCE:
-            self.ask()
-
-    def ask(self):
-        """Asks the plain function of the sessions that were played since it was asked."""
-        answers = ask(self.tests, [list(case(it, None, self.is_closed_for_faults)) for _, it in self.played])
-        for (name, played), answer in zip(self.played, answers):
-            if answer is None or not answer.startswith("same"):
-                self.wrong[name].append(f"{answer} behind\n" + "\n".join(line for line, _ in played.lines))
-            else:
-                self.held[name] += int(answer.split()[1])
-        self.played = []
+        wrong, routes = asked(played, None, self.is_closed_for_faults)
+        self.held[name] += routes
+        if wrong:
+            self.wrong[name].append(f"{wrong} behind\n" + "\n".join(line for line, _ in played.lines))
 
     def results(self):
         """What is wrong with the sessions of each name, or None."""
-        self.ask()
         for name, count in self.counts.items():
             wrong = self.wrong[name]
             yield f"{name}, {count} sessions, {self.held[name]} routes held", "\n".join(wrong[:1]) if wrong else None
 
 
-def fronts(program, tests, folder):
+def fronts(program, folder):
     """Each front of each recorded session, and then the wrong readings of what the whole ones were held against."""
-    sweep, whole = Sweep(program, tests), []
+    sweep, whole = Sweep(program), []
     for name, text, lines in sessions(folder):
         for count in range(1, len(lines) + 1):
             played = sweep.play(f"fronts of {name}", text, lines[:count])
         whole.append(played)
     yield from sweep.results()
     for reading in READINGS:
-        answers = ask(tests, [list(case(it, reading)) for it in whole])
-        found = sum(answer is None or not answer.startswith("same") for answer in answers)
+        found = sum(asked(it, reading).wrong is not None for it in whole)
         yield f"the definitions without {reading}: {found} sessions differ", None if found else "no session finds it"
 
 
@@ -161,10 +149,10 @@ def rooms(program, folder):
         yield f"rooms of one octet, {name}", None if same else f"sent\n{dict(sent(pieces))}\nand not\n{dict(sent(whole))}"
 
 
-def losses(program, tests, folder):
+def losses(program, folder):
     """A loss behind each number of octets of an UPDATE that were taken, and of one that was heard."""
     text = (folder.parent / "four_members.toml").read_text()
-    sweep = Sweep(program, tests)
+    sweep = Sweep(program)
     met = [*up("a"), *up("b")]
     for count in range(len(FIRST) // 2 + 1):
         taken = [*met, f"octets a {FIRST}", "turn", f"room b {count}"]
@@ -222,10 +210,10 @@ def forms(octets):
             yield [f"octets a {(octets[:at] + bytes([changed]) + octets[at + 1 :]).hex()}"]
 
 
-def cuts(program, tests, folder):
+def cuts(program, folder):
     """Each message of the corpus cut and changed, in OpenSent and in Established."""
     text = (folder.parent / "four_members.toml").read_text()
-    sweep = Sweep(program, tests, is_closed_for_faults=True)
+    sweep = Sweep(program, is_closed_for_faults=True)
     # b has a route of its own, which a's end must leave to c.
     others = [*up("b"), *up("c"), f"octets b {BESIDE}"]
     for name, is_four, message in corpus(folder):
@@ -242,20 +230,19 @@ def cuts(program, tests, folder):
     yield from sweep.results()
 
 
-def play_sweeps(program, tests, folder):
+def play_sweeps(program, folder):
     """The results of all sweeps."""
-    for file in (program, tests):
-        if not file.exists():
-            yield "sweeps", f"{file} isn't there"
-            return
-    yield from fronts(program, tests, folder)
+    if not program.exists():
+        yield "sweeps", f"{program} isn't there"
+        return
+    yield from fronts(program, folder)
     yield from rooms(program, folder)
-    yield from losses(program, tests, folder)
-    yield from cuts(program, tests, folder)
+    yield from losses(program, folder)
+    yield from cuts(program, folder)
 
 
 def by_words(words):
     """The results, by the words of a command behind the play's name; None where these are others."""
-    if len(words) == 3:
+    if len(words) == 2:
         return play_sweeps(*(pathlib.Path(it).resolve() for it in words))
     return None

@@ -8,6 +8,4 @@ mod common;
 #[cfg(test)]
 mod live;
 #[cfg(test)]
-mod plain;
-#[cfg(test)]
 mod replays;
