@@ -4,7 +4,7 @@
 Runs `rt ci` at the top of the repository and passes on what it prints. Meanwhile it looks, every two
 seconds, at the processes of the prover and of the compilers; from that it prints how long each crate's
 proofs, tests and edits took. Then it plays each session of examples/sessions to the built rs_replay, and two members to the
-built rs_served, records one and plays the record, and gives it configurations to check. It holds what the members of these sessions are sent against the plain
+built rs_served, records one and plays the record, and gives both programs configurations. It holds what the members of these sessions are sent against the plain
 function (`plain`): of their fronts, with losses, cut and changed octets, refused memory and without threads, and of random
 sessions. It plays hostile members to the built rs_served, those whose play takes seconds. It runs tests
 of calls that take no memory where requests are counted and a test of outlets where memory is refused, compares the example
@@ -30,7 +30,9 @@ from fuzz import CASES, fuzz
 from hostile.plays import play_short
 from plays.checks import play_checks
 from plays.control import play_control
+from plays.faults import play_faults
 from plays.ignored import play_ignored
+from plays.matching import play_matching
 from plays.record import play_records
 from plays.refused import play_refused
 from plays.rules import ROUTES, SEED, play_rules
@@ -167,6 +169,8 @@ def play_all(crates, folder):
     yield from play_refused(replay, folder)
     yield from fuzz(replay, CASES, time.time_ns() % 2**32)
     yield from play_rules(replay, ROUTES, SEED)
+    yield from play_faults(replay)
+    yield from play_matching(replay)
     yield from play_members(crates / "rs_served/out/rs_served")
     yield from play_records(crates / "rs_served/out/rs_served", replay)
     yield from play_window(crates / "rs_served/out/rs_served")

@@ -6,27 +6,8 @@ use rs_attrs::{Attrs, CommunityPattern, Strip};
 use rs_octets::Prefix;
 use std::process::Abort;
 
-/// `ROUTE`, but the path is 64499 and then the set of 64496.
-pub(super) const SET: &[u8] = &[
-    0x40, 1, 1, 0, 0x40, 2, 12, 2, 1, 0, 0, 0xfb, 0xf3, 1, 1, 0, 0, 0xfb, 0xf0, 0x40, 3, 4, 192, 0,
-    2, 11,
-];
-
-/// `ROUTE`, but the path is empty.
-pub(super) const NOWHERE: &[u8] = &[0x40, 1, 1, 0, 0x40, 2, 0, 0x40, 3, 4, 192, 0, 2, 11];
-
-/// `ROUTE`, but the path is the set of 64496 and 64499.
-pub(super) const SET_FIRST: &[u8] = &[
-    0x40, 1, 1, 0, 0x40, 2, 10, 1, 2, 0, 0, 0xfb, 0xf0, 0, 0, 0xfb, 0xf3, 0x40, 3, 4, 192, 0, 2, 11,
-];
-
-/// `ROUTE` with NEXT_HOP 192.0.2.12.
-pub(super) const ELSEWHERE: &[u8] = &[
-    0x40, 1, 1, 0, 0x40, 2, 6, 2, 1, 0, 0, 0xfb, 0xf0, 0x40, 3, 4, 192, 0, 2, 12,
-];
-
 /// `ROUTE` with the communities 64500:1 and 64500:2.
-pub(super) const COLOURED: &[u8] = &[
+static COLOURED: &[u8] = &[
     0x40, 1, 1, 0, 0x40, 2, 6, 2, 1, 0, 0, 0xfb, 0xf0, 0x40, 3, 4, 192, 0, 2, 11, 0xc0, 8, 8, 0xfb,
     0xf4, 0, 1, 0xfb, 0xf4, 0, 2,
 ];
@@ -130,7 +111,7 @@ impl Route {
 }
 
 /// Import and export rules, each pair with the preference of the route.
-const LISTS: [(&str, &str, Option<u32>); 14] = [
+static LISTS: [(&str, &str, Option<u32>); 14] = [
     (
         "{ action = \"pass\", preference = 1 }, { action = \"drop\" }",
         "",
@@ -187,7 +168,7 @@ const LISTS: [(&str, &str, Option<u32>); 14] = [
 ];
 
 /// The same with a default: the text at the top, import and export rules, and the preference of the route.
-const DEFAULTS: [(&str, &str, &str, Option<u32>); 7] = [
+static DEFAULTS: [(&str, &str, &str, Option<u32>); 7] = [
     ("", "", "", Some(100)),
     ("default = \"drop\"\n", "", "", None),
     ("default = \"drop\"\n", "{ action = \"pass\" }", "", None),

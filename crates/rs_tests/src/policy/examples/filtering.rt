@@ -8,7 +8,7 @@ use rs_octets::Prefix;
 use std::process::Abort;
 
 /// Prefix, communities as octets, and whether alpha's route goes to beta and to gamma.
-const FILTERED: [(u32, u8, &[u8], bool, bool); 15] = [
+static FILTERED: [(u32, u8, &[u8], bool, bool); 15] = [
     (0xc633_6400, 24, &[], true, true),
     (0xc633_6400, 25, &[], false, false),
     // beta's, and not alpha's
@@ -71,11 +71,11 @@ const FILTERED: [(u32, u8, &[u8], bool, bool); 15] = [
 ];
 
 /// What alpha says: the communities 0:64498, 64500:64497 and 65535:65281, and the large ones 64500:1:65551 and 64496:1:1.
-const SAID: &[u8] =
+static SAID: &[u8] =
     b"\xc0\x08\x0c\x00\x00\xfb\xf2\xfb\xf4\xfb\xf1\xff\xff\xff\x01\xc0\x20\x18\x00\x00\xfb\xf4\x00\x00\x00\x01\x00\x01\x00\x0f\x00\x00\xfb\xf0\x00\x00\x00\x01\x00\x00\x00\x01";
 
 /// What is no action stays: 65535:65281 and 64496:1:1.
-const LEFT: &[u8] =
+static LEFT: &[u8] =
     b"\xc0\x08\x04\xff\xff\xff\x01\xc0\x20\x0c\x00\x00\xfb\xf0\x00\x00\x00\x01\x00\x00\x00\x01";
 
 /// A route of alpha with these communities goes to a client with those.
