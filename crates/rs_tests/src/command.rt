@@ -216,7 +216,7 @@ type Played = (
     Option<u64>,
 );
 
-const TO_PLAY: [Played; 5] = [
+static TO_PLAY: [Played; 5] = [
     ("rs_replay --config a", "a", 1, false, None, None),
     (
         "rs_replay --config a --compare b --until 7",
@@ -277,7 +277,7 @@ type Served = (
     bool,
 );
 
-const TO_SERVE: [Served; 5] = [
+static TO_SERVE: [Served; 5] = [
     ("rs_served --config a", "a", 1, None, None, None, false),
     (
         "rs_served --config a --workers=16 --sessions 4294967295 --reload 65535 --log",
@@ -397,7 +397,7 @@ fn is_refused(rt: &impl Abort, alloc: Global, line: &str) {
     is_kept(rt, &streams.output, "");
 }
 
-const REFUSED: [&str; 18] = [
+static REFUSED: [&str; 18] = [
     "rs_served",
     "rs_served --config",
     "rs_served --config a b",

@@ -40,7 +40,7 @@ export = [{ prefix = \"198.51.100.0/24\", action = \"drop\" }]
 ";
 
 /// ORIGIN IGP, AS_PATH 64496, NEXT_HOP 192.0.2.11, MED 7, community 64500:1.
-const ATTRIBUTES: [u8; 34] = [
+static ATTRIBUTES: [u8; 34] = [
     0x40, 1, 1, 0, 0x40, 2, 6, 2, 1, 0, 0, 0xfb, 0xf0, 0x40, 3, 4, 192, 0, 2, 11, 0x80, 4, 4, 0, 0,
     0, 7, 0xc0, 8, 4, 0xfb, 0xf4, 0, 1,
 ];

@@ -39,7 +39,7 @@ const UPDATE: &[u8] =
     b"\xff\xff\xff\xff\xff\xff\xff\xff\xff\xff\xff\xff\xff\xff\xff\xff\x00\x2f\x02\x00\x00\x00\x14\x40\x01\x01\x00\x40\x02\x06\x02\x01\x00\x00\xfb\xf0\x40\x03\x04\xc0\x00\x02\x0b\x18\xc6\x33\x64";
 
 /// It is withdrawn.
-const WITHDRAWN: &[u8] =
+static WITHDRAWN: &[u8] =
     b"\xff\xff\xff\xff\xff\xff\xff\xff\xff\xff\xff\xff\xff\xff\xff\xff\x00\x1b\x02\x00\x04\x18\xc6\x33\x64\x00\x00";
 
 /// The configuration of both members.
@@ -64,7 +64,7 @@ fn is_said(rt: &impl Abort, alloc: Global, names: &ClientNames, event: Event, li
 }
 
 /// Events, each with its lines.
-const EVENTS: [(Event, &str); 19] = [
+static EVENTS: [(Event, &str); 19] = [
     (Event::Opened(0), "open a\n"),
     (Event::Opened(1), "open member-2\n"),
     (Event::Opened(2), ""),
@@ -234,7 +234,7 @@ impl Sink for Script<'_> {
     fn ruled(&mut self, _answer: &Result<(), RulesFault>) {}
 }
 
-const SESSION: [(Event, &[u8]); 29] = [
+static SESSION: [(Event, &[u8]); 29] = [
     (Event::Opened(0), b""),
     (Event::Octets(0, 37), OPEN_A),
     (Event::Octets(0, 19), KEEPALIVE),

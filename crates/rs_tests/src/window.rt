@@ -161,13 +161,13 @@ fn check(rt: &impl Abort, alloc: Global, said: &[u8], begins: &[u8], is_done: bo
     play.let_go();
 }
 
-const LETTERS_ASKED: &[u8] = b"GET /letters HTTP/1.1\r\nHost: localhost:8080\r\n\r\n";
+static LETTERS_ASKED: &[u8] = b"GET /letters HTTP/1.1\r\nHost: localhost:8080\r\n\r\n";
 
-const HEAD: &[u8] = b"HTTP/1.1 200 OK\r\nContent-Type: text/plain; charset=utf-8\r\n";
+static HEAD: &[u8] = b"HTTP/1.1 200 OK\r\nContent-Type: text/plain; charset=utf-8\r\n";
 
-const CHUNKED: &[u8] = b"Transfer-Encoding: chunked\r\n";
+static CHUNKED: &[u8] = b"Transfer-Encoding: chunked\r\n";
 
-const GUARDS: &[u8] =
+static GUARDS: &[u8] =
     b"Cache-Control: no-store\r\nX-Content-Type-Options: nosniff\r\nReferrer-Policy: no-referrer\r\nContent-Security-Policy: default-src 'none'; style-src 'unsafe-inline'; form-action 'self'; base-uri 'none'; frame-ancestors 'none'\r\n";
 
 /// The whole of a text with these fields and this behind its head.
@@ -251,7 +251,7 @@ fn a_thousand_requests_at_once_are_answered_in_order(rt: HostRuntime) {
 }
 
 /// What is said, and what the answer begins with.
-const REFUSED_REQUESTS: [(&[u8], &[u8]); 14] = [
+static REFUSED_REQUESTS: [(&[u8], &[u8]); 14] = [
     (
         b"POST /0 HTTP/1.1\r\nHost: localhost\r\n\r\n",
         b"HTTP/1.1 405 Method Not Allowed\r\nAllow: GET, HEAD\r\n",
@@ -306,7 +306,7 @@ fn what_is_no_good_request_is_refused(rt: HostRuntime) {
 }
 
 /// Requests to a host of this machine, and what the answer begins with.
-const OF_THIS_MACHINE: [(&[u8], &[u8]); 8] = [
+static OF_THIS_MACHINE: [(&[u8], &[u8]); 8] = [
     (
         b"GET /0 HTTP/1.1\r\nHost: LocalHost\r\n\r\n",
         b"HTTP/1.1 200 OK\r\n",

@@ -49,13 +49,13 @@ fn holds_by_number(
 }
 
 /// What clients 0 and 1 hold. The prefix that stands between two others came last, and has the greatest number.
-const OF_0: [(u32, u8, u32); 3] = [
+static OF_0: [(u32, u8, u32); 3] = [
     (WIDE.0, WIDE.1, 0),
     (OTHER.0, OTHER.1, 1),
     (INNER.0, INNER.1, 2),
 ];
 
-const OF_1: [(u32, u8, u32); 2] = [(WIDE.0, WIDE.1, 0), (OTHER.0, OTHER.1, 1)];
+static OF_1: [(u32, u8, u32); 2] = [(WIDE.0, WIDE.1, 0), (OTHER.0, OTHER.1, 1)];
 
 #[test]
 fn what_is_held_rises_by_prefix_or_by_number(rt: HostRuntime) {

@@ -30,13 +30,13 @@ fn routes_are_listed_in_order(rt: HostRuntime) {
 }
 
 /// The candidates for 10.0.0.0/8, and how many hold each prefix.
-const FOR_WIDE: [(usize, u32, u32); 3] = [
+static FOR_WIDE: [(usize, u32, u32); 3] = [
     (0, 0xc000_020a, 1),
     (1, 0xc000_020b, 1),
     (2, 0xc000_020c, 2),
 ];
 
-const BY_ALL: [(u32, u8, usize); 3] = [
+static BY_ALL: [(u32, u8, usize); 3] = [
     (WIDE.0, WIDE.1, 3),
     (INNER.0, INNER.1, 1),
     (OTHER.0, OTHER.1, 2),

@@ -78,7 +78,7 @@ fn what_is_held_from_a_prefix_on(rt: HostRuntime) {
 }
 
 /// A client, a prefix, and what it holds from there on.
-const HELD_FROM: [(usize, (u32, u8), &[(u32, u8, u32)]); 8] = [
+static HELD_FROM: [(usize, (u32, u8), &[(u32, u8, u32)]); 8] = [
     (0, FIRST, &ALL),
     (0, WIDE, &ALL),
     (0, BETWEEN, &BEHIND_WIDE),

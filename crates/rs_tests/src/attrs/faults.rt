@@ -135,7 +135,7 @@ fn a_missing_attribute_as_text(rt: HostRuntime) {
 
 // The types by number, as RFC 4271, RFC 1997, RFC 4456, RFC 4760, RFC 4360, RFC 6793 and RFC 8092 call them.
 
-const NAMES: [(u8, &str); 16] = [
+static NAMES: [(u8, &str); 16] = [
     (1, "ORIGIN"),
     (2, "AS_PATH"),
     (3, "NEXT_HOP"),

@@ -223,7 +223,7 @@ fn has_large(rt: &impl Abort, attrs: &Attrs, pattern: LargeCommunityPattern, wan
 }
 
 /// 64496:1:2, 4200000000:0:4294967295.
-const LARGE: &[u8] =
+static LARGE: &[u8] =
     b"\xc0\x20\x18\x00\x00\xfb\xf0\x00\x00\x00\x01\x00\x00\x00\x02\xfa\x56\xea\x00\x00\x00\x00\x00\xff\xff\xff\xff";
 
 /// The parts, None where one may be any, and whether a large community of them is there.

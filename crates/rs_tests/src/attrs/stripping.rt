@@ -22,7 +22,7 @@ const WITHOUT_1_2: &[u8] =
 const WITHOUT_LARGE: &[u8] =
     b"\xe0\x08\x0c\xfb\xf0\x00\x01\xfb\xf0\x00\x02\xfb\xf0\x00\x01\xc0\x63\x02\xab\xcd";
 
-const WITHOUT_ANY: &[u8] = b"\xc0\x63\x02\xab\xcd";
+static WITHOUT_ANY: &[u8] = b"\xc0\x63\x02\xab\xcd";
 
 pub(super) const NOTHING: Strip<'static> = Strip {
     communities: [&[], &[]],

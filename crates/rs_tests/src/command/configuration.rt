@@ -112,7 +112,7 @@ fn a_good_file_is_read(rt: HostRuntime) {
 }
 
 /// Two texts, which are read as two members one behind the other.
-const JOINED: [(&str, &str); 5] = [
+static JOINED: [(&str, &str); 5] = [
     (TOP, MEMBERS),
     ("as = 64500\nidentifier = \"192.0.2.1\"\n", MEMBERS),
     ("", GOOD),

@@ -21,19 +21,19 @@ const C: usize = 2;
 const D: usize = 3;
 
 /// ORIGIN IGP, an AS_PATH of the member alone, and its NEXT_HOP.
-const OF_A: [u8; 20] = [
+static OF_A: [u8; 20] = [
     0x40, 1, 1, 0, 0x40, 2, 6, 2, 1, 0, 0, 0xfb, 0xf0, 0x40, 3, 4, 192, 0, 2, 11,
 ];
 
-const OF_B: [u8; 20] = [
+static OF_B: [u8; 20] = [
     0x40, 1, 1, 0, 0x40, 2, 6, 2, 1, 0, 0, 0xfb, 0xf1, 0x40, 3, 4, 192, 0, 2, 12,
 ];
 
 /// COMMUNITIES with 64500:1 alone.
-const TAGGED: [u8; 7] = [0xc0, 8, 4, 0xfb, 0xf4, 0, 1];
+static TAGGED: [u8; 7] = [0xc0, 8, 4, 0xfb, 0xf4, 0, 1];
 
 /// LARGE_COMMUNITY with 64500:1:64498 alone.
-const TAGGED_LARGE: [u8; 15] = [0xc0, 32, 12, 0, 0, 0xfb, 0xf4, 0, 0, 0, 1, 0, 0, 0xfb, 0xf2];
+static TAGGED_LARGE: [u8; 15] = [0xc0, 32, 12, 0, 0, 0xfb, 0xf4, 0, 0, 0, 1, 0, 0, 0xfb, 0xf2];
 
 /// The top and the four members' tables.
 const MEMBER_A: &str = "as = 64500\nidentifier = \"192.0.2.1\"\n\

@@ -6,16 +6,16 @@ use std::alloc::Global;
 use std::process::Abort;
 
 /// ORIGIN IGP, an empty AS_PATH, NEXT_HOP 192.0.2.12.
-const SHORTER: [u8; 14] = [0x40, 1, 1, 0, 0x40, 2, 0, 0x40, 3, 4, 192, 0, 2, 12];
+static SHORTER: [u8; 14] = [0x40, 1, 1, 0, 0x40, 2, 0, 0x40, 3, 4, 192, 0, 2, 12];
 
 /// ORIGIN IGP, AS_PATH 64497 64498, NEXT_HOP 192.0.2.12.
-const LONGER: [u8; 24] = [
+static LONGER: [u8; 24] = [
     0x40, 1, 1, 0, 0x40, 2, 10, 2, 2, 0, 0, 0xfb, 0xf1, 0, 0, 0xfb, 0xf2, 0x40, 3, 4, 192, 0, 2, 12,
 ];
 
 /// What becomes of alpha's routes for 198.51.100.0/24, which is longer than beta's, 198.51.101.0/24, which is
 /// shorter, and 198.51.102.0/24, which its import list drops; and of beta's three.
-const ROUTES_COUNTED: [(&str, &str); 5] = [
+static ROUTES_COUNTED: [(&str, &str); 5] = [
     (
         "/protocols/bgp/alpha",
         ",\"routes\":{\"imported\":2,\"filtered\":1,\"exported\":0,\"preferred\":1}}\n}}\n",

@@ -7,7 +7,7 @@ use std::alloc::Global;
 use std::process::Abort;
 
 /// Texts of prefixes, and what they spell: bits and length.
-const PREFIXES: [(&str, Option<(u32, u8)>); 12] = [
+static PREFIXES: [(&str, Option<(u32, u8)>); 12] = [
     ("0.0.0.0/0", Some((0, 0))),
     ("192.0.2.0/24", Some((0xc000_0200, 24))),
     ("192.0.2.0%2f24", Some((0xc000_0200, 24))),

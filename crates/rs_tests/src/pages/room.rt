@@ -6,7 +6,7 @@ use rs_open::Limit;
 use std::alloc::{AllocError, Global};
 
 /// ORIGIN IGP, AS_PATH 64496, NEXT_HOP 192.0.2.11.
-const OTHERS: [u8; 20] = [
+static OTHERS: [u8; 20] = [
     0x40, 1, 1, 0, 0x40, 2, 6, 2, 1, 0, 0, 0xfb, 0xf0, 0x40, 3, 4, 192, 0, 2, 11,
 ];
 
@@ -24,7 +24,7 @@ fn attributes(alloc: Global, communities: u16) -> Result<Vec<u8>, AllocError> {
 
 /// How many communities a route for a prefix of 24 bits has, how long messages may be, and what is said. Beside
 /// the attributes the message has 27 octets: with 1,011 communities it has 4,095, with 1,014 4,107.
-const ROUTES: [(u16, Limit, &str); 4] = [
+static ROUTES: [(u16, Limit, &str); 4] = [
     (1011, Limit::Short, "\"outcome\":\"chosen\",\"rules\":["),
     (
         1012,

@@ -7,7 +7,7 @@ use std::process::Abort;
 
 /// Targets of a server with two members, of which alpha has announced 198.51.100.0/24 and 198.51.101.0/24 and
 /// beta takes no 198.51.100.0/24; and what the page says.
-const SAID: [(&str, &str); 34] = [
+static SAID: [(&str, &str); 34] = [
     (
         "/",
         "<a href=\"/members/alpha\">alpha</a><td>64496<td>192.0.2.11<td class=up>up<td>2001-09-09T01:46:45Z<td class=number>2<td class=number>0<td class=number>0<td class=number>0</tr>",
@@ -115,7 +115,7 @@ const SAID: [(&str, &str); 34] = [
 
 /// Targets of a server to which alpha has announced 198.51.102.0/24 too, which its import list drops; and the
 /// one route that the page lists, if any.
-const KEPT: [(&str, Option<&str>); 5] = [
+static KEPT: [(&str, Option<&str>); 5] = [
     ("/routes/protocol/beta", None),
     ("/routes/filtered/alpha", Some("198.51.102.0/24")),
     ("/routes/filtered/beta", None),
@@ -124,7 +124,7 @@ const KEPT: [(&str, Option<&str>); 5] = [
 ];
 
 /// Targets that name no page.
-const NONE: [&str; 16] = [
+static NONE: [&str; 16] = [
     "",
     "//",
     "/status/",

@@ -8,7 +8,7 @@ use std::process::Abort;
 
 /// OPEN, KEEPALIVE, UPDATE without routes, UPDATE that withdraws 192.0.2.0/24, KEEPALIVE, and the first UPDATE again
 /// (RFC 4271, 4.1 to 4.4).
-const SESSION: [u8; 140] = [
+static SESSION: [u8; 140] = [
     0xff, 0xff, 0xff, 0xff, 0xff, 0xff, 0xff, 0xff, 0xff, 0xff, 0xff, 0xff, 0xff, 0xff, 0xff, 0xff,
     0, 29, 1, 4, 0xfb, 0xf0, 0, 90, 192, 0, 2, 11, 0, //
     0xff, 0xff, 0xff, 0xff, 0xff, 0xff, 0xff, 0xff, 0xff, 0xff, 0xff, 0xff, 0xff, 0xff, 0xff, 0xff,
@@ -24,7 +24,7 @@ const SESSION: [u8; 140] = [
 ];
 
 /// How many octets of it have come where each of its UPDATEs is whole.
-const UPDATE_ENDS: [usize; 3] = [71, 98, 140];
+static UPDATE_ENDS: [usize; 3] = [71, 98, 140];
 
 /// Counts what happened where alpha said all that, beta was sent the first of its octets, and turns took 1 ms, a
 /// little more, and 3 seconds.
@@ -43,7 +43,7 @@ pub(super) fn count(counts: &mut Counts) {
 }
 
 /// What /metrics says of it, each once.
-const COUNTED: [&str; 24] = [
+static COUNTED: [&str; 24] = [
     "# TYPE rs_prefixes gauge\nrs_prefixes 2\n",
     "# TYPE rs_attribute_sets gauge\nrs_attribute_sets 1\n",
     "rs_member_waiting_prefixes{member=\"alpha\"} 0\n",

@@ -67,15 +67,17 @@ fn a_client_is_told_its_routes_again(rt: HostRuntime) {
     exchange.let_go();
 }
 
+/// What a link is told at last of commands.
+static OF_COMMANDS: [Said; 5] = [
+    Said::Took(B, 47),
+    Said::Took(B, 47),
+    Said::Took(A, 31),
+    Said::End(A),
+    Said::Took(B, 27),
+];
+
 #[test]
 fn a_link_tells_of_commands(rt: HostRuntime) {
-    const LAST: [Said; 5] = [
-        Said::Took(B, 47),
-        Said::Took(B, 47),
-        Said::Took(A, 31),
-        Said::End(A),
-        Said::Took(B, 27),
-    ];
     let mut link = Tape::new(rt.alloc());
     link.come_up(&rt, A, OPEN_A);
     link.come_up(&rt, B, OPEN_B);
@@ -92,7 +94,7 @@ fn a_link_tells_of_commands(rt: HostRuntime) {
     link.room(&rt, B, 5_000);
     let mut core = server(&rt, rt.alloc(), "", "");
     drive(&rt, &mut core, &mut link);
-    link.was_told(&rt, 6, &LAST);
+    link.was_told(&rt, 6, &OF_COMMANDS);
     link.was_sent(&rt, A, &[OPEN_SERVER, KEEPALIVE, SHUTDOWN]);
     link.was_sent(&rt, B, &[OPEN_SERVER, KEEPALIVE, ROUTE, ROUTE, NO_ROUTE]);
 }

@@ -9,7 +9,7 @@ use std::process::Abort;
 const EACH: u32 = 1000;
 
 /// ORIGIN IGP, AS_PATH 64496 and NEXT_HOP 192.0.2.11.
-const ATTRIBUTES: [u8; 20] = [
+static ATTRIBUTES: [u8; 20] = [
     0x40, 1, 1, 0, 0x40, 2, 6, 2, 1, 0, 0, 0xfb, 0xf0, 0x40, 3, 4, 0xc0, 0, 2, 11,
 ];
 

@@ -79,17 +79,19 @@ impl Driven {
     fn let_go(self) {}
 }
 
+/// What a link is told where a route goes over it.
+static ALL_SAID: [Said; 7] = [
+    Said::Begin(A),
+    Said::Took(A, OPEN_LEN),
+    Said::Took(A, KEEPALIVE_LEN),
+    Said::Begin(B),
+    Said::Took(B, OPEN_LEN),
+    Said::Took(B, KEEPALIVE_LEN),
+    Said::Took(B, ROUTE_LEN),
+];
+
 #[test]
 fn a_route_goes_over_a_link(rt: HostRuntime) {
-    const ALL_SAID: [Said; 7] = [
-        Said::Begin(A),
-        Said::Took(A, OPEN_LEN),
-        Said::Took(A, KEEPALIVE_LEN),
-        Said::Begin(B),
-        Said::Took(B, OPEN_LEN),
-        Said::Took(B, KEEPALIVE_LEN),
-        Said::Took(B, ROUTE_LEN),
-    ];
     let mut link = with_a_route(&rt, rt.alloc());
     link.room(&rt, B, 5_000);
     let mut driven = Driven::new(&rt, rt.alloc(), link);
@@ -104,14 +106,16 @@ fn a_route_goes_over_a_link(rt: HostRuntime) {
     driven.let_go();
 }
 
+/// What a link that takes nothing, or a part, is told at last.
+static TAKEN_IN_PARTS: [Said; 4] = [
+    Said::Took(B, 0),
+    Said::Took(B, 20),
+    Said::Took(B, 0),
+    Said::Took(B, ROUTE_LEN - 20),
+];
+
 #[test]
 fn a_link_takes_nothing_or_a_part(rt: HostRuntime) {
-    const LAST: [Said; 4] = [
-        Said::Took(B, 0),
-        Said::Took(B, 20),
-        Said::Took(B, 0),
-        Said::Took(B, ROUTE_LEN - 20),
-    ];
     let mut link = with_a_route(&rt, rt.alloc());
     take_all_so_far(&rt, &mut link);
     link.take(&rt, Some(0));
@@ -122,23 +126,25 @@ fn a_link_takes_nothing_or_a_part(rt: HostRuntime) {
     link.room(&rt, B, 5_000);
     let mut driven = Driven::new(&rt, rt.alloc(), link);
     driven.play(&rt);
-    driven.link.was_told(&rt, UP, &LAST);
+    driven.link.was_told(&rt, UP, &TAKEN_IN_PARTS);
     driven
         .link
         .was_sent(&rt, B, &[OPEN_SERVER, KEEPALIVE, ROUTE]);
     driven.let_go();
 }
 
+/// What a link that fails is told at last.
+static AFTER_A_FAILURE: [Said; 6] = [
+    Said::Took(B, 20),
+    Said::Failed(B),
+    Said::Begin(B),
+    Said::Took(B, OPEN_LEN),
+    Said::Took(B, KEEPALIVE_LEN),
+    Said::Took(B, ROUTE_LEN),
+];
+
 #[test]
 fn a_link_that_fails_is_a_loss(rt: HostRuntime) {
-    const LAST: [Said; 6] = [
-        Said::Took(B, 20),
-        Said::Failed(B),
-        Said::Begin(B),
-        Said::Took(B, OPEN_LEN),
-        Said::Took(B, KEEPALIVE_LEN),
-        Said::Took(B, ROUTE_LEN),
-    ];
     let mut link = with_a_route(&rt, rt.alloc());
     take_all_so_far(&rt, &mut link);
     link.take(&rt, Some(20));
@@ -149,7 +155,7 @@ fn a_link_that_fails_is_a_loss(rt: HostRuntime) {
     link.room(&rt, B, 5_000);
     let mut driven = Driven::new(&rt, rt.alloc(), link);
     driven.play(&rt);
-    driven.link.was_told(&rt, UP, &LAST);
+    driven.link.was_told(&rt, UP, &AFTER_A_FAILURE);
     driven.let_go();
 }
 
@@ -171,15 +177,17 @@ fn a_second_drive_goes_on(rt: HostRuntime) {
     driven.let_go();
 }
 
+/// What a link is told at last of ends and rules.
+static OF_ENDS_AND_RULES: [Said; 5] = [
+    Said::Busy(A),
+    Said::Ruled(true),
+    Said::Took(A, 20),
+    Said::Took(A, 1),
+    Said::End(A),
+];
+
 #[test]
 fn a_link_is_told_of_ends_and_rules(rt: HostRuntime) {
-    const LAST: [Said; 5] = [
-        Said::Busy(A),
-        Said::Ruled(true),
-        Said::Took(A, 20),
-        Said::Took(A, 1),
-        Said::End(A),
-    ];
     let rules = text(&rt, rt.alloc(), "", "", "export = [{ action = \"drop\" }]");
     let mut link = Tape::new(rt.alloc());
     link.come_up(&rt, A, OPEN_A);
@@ -192,7 +200,7 @@ fn a_link_is_told_of_ends_and_rules(rt: HostRuntime) {
     link.room(&rt, A, 5_000);
     let mut driven = Driven::new(&rt, rt.alloc(), link);
     driven.play(&rt);
-    driven.link.was_told(&rt, 3, &LAST);
+    driven.link.was_told(&rt, 3, &OF_ENDS_AND_RULES);
     driven.let_go();
 }
 
