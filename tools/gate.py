@@ -29,12 +29,14 @@ from check_names import check_pages
 from fuzz import CASES, fuzz
 from hostile.plays import play_short
 from plays.checks import play_checks
+from plays.commands import play_commands
 from plays.control import play_control
 from plays.faults import play_faults
 from plays.ignored import play_ignored
 from plays.matching import play_matching
 from plays.record import play_records
 from plays.refused import play_refused
+from plays.requests import play_requests
 from plays.rules import ROUTES, SEED, play_rules
 from plays.server import play_members
 from plays.sessions import play
@@ -174,8 +176,10 @@ def play_all(crates, folder):
     yield from play_members(crates / "rs_served/out/rs_served")
     yield from play_records(crates / "rs_served/out/rs_served", replay)
     yield from play_window(crates / "rs_served/out/rs_served")
+    yield from play_requests(crates / "rs_served/out/rs_served")
     yield from play_control(crates / "rs_served/out/rs_served")
     yield from play_checks(crates / "rs_served/out/rs_served")
+    yield from play_commands(crates / "rs_served/out/rs_served", replay)
     yield from play_short(crates / "rs_served/out/rs_served", HOSTILE)
     yield from play_alone(crates, folder)
     yield from play_memory(crates / "rs_tests/out/rs_tests_tests")

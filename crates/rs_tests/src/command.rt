@@ -1,6 +1,6 @@
-//! What command lines ask for, what is printed for those that ask for nothing, and the statuses.
+//! What command lines ask for, and the statuses. What is printed for lines that ask for nothing, or are refused, is played: by
+//! `tools/plays/commands.py`.
 
-mod checking;
 mod configuration;
 
 use crate::common::{equals, is, push};
@@ -13,53 +13,6 @@ use std::fmt::{Display, Write};
 use std::io;
 use std::io::ErrorKind;
 use std::process::Abort;
-
-/// What `clap` prints by the texts of the two command lines.
-const HELP_TO_PLAY: &str =
-    "Plays a recorded session from standard input to a route server and writes what its clients are sent
-
-Usage: rs_replay [OPTIONS] --config <FILE>
-
-Options:
-  -c, --config <FILE>   the configuration, a TOML file; the texts of several are joined in their order
-      --workers <N>     how many workers share the work of a turn, 1 to 16 [default: 1]
-      --progress        print on standard error, where it is a terminal, how many lines were read and UPDATEs heard, and how much is left of a file
-      --compare <FILE>  hold what another server sent, as this file says, against what is due at the end
-      --until <N>       play only the first N lines
-      --table <NAME>    list the routes of this client at the end; may be given more than once
-  -h, --help            Print help
-  -V, --version         Print version
-";
-
-const HELP_TO_SERVE: &str = "A BGP-4 route server for internet exchanges
-
-Usage: rs_served [OPTIONS]
-
-Options:
-  -c, --config <FILE>          the configuration, a TOML file; the texts of several are joined in their order
-      --workers <N>            how many threads decide where much has changed, 1 to 16 (1 if missing)
-      --sessions <N>           end once so many sessions have ended
-      --reload <N>             read the configuration again every N rounds, and use its rules where they are good
-      --window <ADDRESS:PORT>  show the server over HTTP there, as at 127.0.0.1:8080, to read alone
-      --control <PATH>         take commands at this Unix socket, which the server makes
-      --ask <COMMAND>          ask the server whose control socket it is, in place of serving: help lists the commands
-      --log [<LEVEL>]          print on standard error what happens, and why: what goes wrong, what changes too, or all [possible values: error, change, route]
-      --utc                    begin these lines with the time of day, in place of the seconds since the start
-      --record <FILE>          record the run for rs_replay in FILE, and the configuration in FILE.toml, which must not be there
-      --record-size <N>        begin FILE.1, FILE.2 and so on, each behind N MiB
-      --check                  only read the configuration, and say whether it is good
-  -h, --help                   Print help
-  -V, --version                Print version
-";
-
-const FAULT: &str = "error: invalid value '17' for '--workers <N>': 17 is not in 1..=16
-
-For more information, try '--help'.
-";
-
-const PLAYS: &str = "rs_replay 0.1.0 (rattle-kit-13f logic dac8208d650f15bf)\n";
-
-const SERVES: &str = "rs_served 0.1.0 (rattle-kit-13f logic dac8208d650f15bf)\n";
 
 /// Standard output and standard error, kept.
 #[derive(Drop)]
@@ -181,14 +134,6 @@ fn options_of<T: Drop>(rt: &impl Abort, asked: Asked<T>) -> T {
         Asked::End(_) => None,
     };
     options.expect(rt, "options")
-}
-
-/// The status of what is asked to end.
-fn status_of<T: Drop>(asked: Asked<T>) -> Option<Status> {
-    match asked {
-        Asked::Run(_) => None,
-        Asked::End(status) => Some(status),
-    }
 }
 
 /// The options that this line gives rs_served, where nothing is printed.
@@ -387,98 +332,6 @@ fn options_to_control_by(rt: HostRuntime) {
     is_controlled(&rt, rt.alloc(), line, 1, "c", None);
     let line = "rs_served --ask show --control=c";
     is_controlled(&rt, rt.alloc(), line, 0, "c", Some("show"));
-}
-
-/// By this line rs_served ends with status 2, and nothing is printed on standard output.
-fn is_refused(rt: &impl Abort, alloc: Global, line: &str) {
-    let streams = Streams::new(alloc);
-    let status = status_of(asked_to_serve(rt, alloc, &streams, line));
-    is(rt, status, Some(Status::BadCommand), line);
-    is_kept(rt, &streams.output, "");
-}
-
-static REFUSED: [&str; 18] = [
-    "rs_served",
-    "rs_served --config",
-    "rs_served --config a b",
-    "rs_served --config a --config",
-    "rs_served -c",
-    "rs_served --config a --unknown",
-    "rs_served --config a --workers two",
-    "rs_served --config a --workers 0",
-    "rs_served --config a --sessions 4294967296",
-    "rs_served --config a --reload 65536",
-    // what is asked for by half
-    "rs_served -c a --record-size 64",
-    "rs_served -c a --record r --record-size 0",
-    "rs_served -c a --record r --record s",
-    "rs_served --control c",
-    "rs_served --ask show",
-    "rs_served -c a --ask show --control c",
-    // levels of the log
-    "rs_served -c a --log errors",
-    "rs_served -c a --log --log",
-];
-
-#[test]
-fn faults_end_with_2(rt: HostRuntime) {
-    for line in &REFUSED {
-        is_refused(&rt, rt.alloc(), line);
-    }
-}
-
-/// By this line rs_replay ends with this status, and this was printed.
-fn ends_to_play(
-    rt: &impl Abort,
-    alloc: Global,
-    line: &str,
-    wanted: Status,
-    output: &str,
-    errors: &str,
-) {
-    let streams = Streams::new(alloc);
-    let status = status_of(asked_to_play(rt, alloc, &streams, line));
-    is(rt, status, Some(wanted), line);
-    is_printed(rt, &streams, output, errors);
-}
-
-/// By this line rs_served ends with status 0, and this was printed on standard output.
-fn ends_to_serve(rt: &impl Abort, alloc: Global, line: &str, output: &str) {
-    let streams = Streams::new(alloc);
-    let status = status_of(asked_to_serve(rt, alloc, &streams, line));
-    is(rt, status, Some(Status::Done), line);
-    is_printed(rt, &streams, output, "");
-}
-
-/// By this line rs_replay ends with status 0, and this was printed on standard output.
-fn plays_no_more(rt: &impl Abort, alloc: Global, line: &str, output: &str) {
-    ends_to_play(rt, alloc, line, Status::Done, output, "");
-}
-
-#[test]
-fn a_fault_is_printed(rt: HostRuntime) {
-    let line = "rs_replay --config a --workers 17";
-    ends_to_play(&rt, rt.alloc(), line, Status::BadCommand, "", FAULT);
-}
-
-#[test]
-fn help_to_play_is_printed(rt: HostRuntime) {
-    plays_no_more(&rt, rt.alloc(), "rs_replay --help", HELP_TO_PLAY);
-    plays_no_more(&rt, rt.alloc(), "rs_replay -h", HELP_TO_PLAY);
-}
-
-#[test]
-fn help_to_serve_is_printed(rt: HostRuntime) {
-    ends_to_serve(&rt, rt.alloc(), "rs_served --help", HELP_TO_SERVE);
-    ends_to_serve(&rt, rt.alloc(), "rs_served -h", HELP_TO_SERVE);
-}
-
-#[test]
-fn versions_are_printed(rt: HostRuntime) {
-    plays_no_more(&rt, rt.alloc(), "rs_replay --version", PLAYS);
-    plays_no_more(&rt, rt.alloc(), "rs_replay -V", PLAYS);
-    ends_to_serve(&rt, rt.alloc(), "rs_served --version", SERVES);
-    ends_to_serve(&rt, rt.alloc(), "rs_served -V", SERVES);
 }
 
 /// A status has this number.
