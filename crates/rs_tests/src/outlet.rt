@@ -173,6 +173,14 @@ fn drain(rt: &impl Abort, exchange: &Exchange, outlet: &mut Outlet) -> Vec<u8> {
     taken
 }
 
+/// An exchange of so many routes, and an outlet for which all are decided.
+fn decided(rt: &impl Abort, alloc: Global, count: u32) -> (Exchange, Outlet) {
+    let exchange = Exchange::with_routes(rt, alloc, count);
+    let mut outlet = exchange.outlet(rt, CLIENT);
+    exchange.decides(rt, &mut outlet, all(count as usize));
+    (exchange, outlet)
+}
+
 /// The first so many prefixes are touched, each twice; what the turn after them decides.
 fn decides_after(
     rt: &impl Abort,
@@ -188,14 +196,26 @@ fn decides_after(
 
 #[test]
 fn more_than_4096_touched_are_all(rt: HostRuntime) {
-    let exchange = Exchange::with_routes(&rt, rt.alloc(), 5_000);
-    let mut outlet = exchange.outlet(&rt, CLIENT);
-    exchange.decides(&rt, &mut outlet, all(5_000));
-    decides_after(&rt, &exchange, &mut outlet, 1, some(1));
-    decides_after(&rt, &exchange, &mut outlet, 4_096, some(4_096));
-    decides_after(&rt, &exchange, &mut outlet, 4_097, all(5_000));
-    equals(&rt, outlet.last(), Last::Done(all(5_000)));
+    let whole = all(5_000);
+    let (exchange, mut outlet) = decided(&rt, rt.alloc(), 5_000);
+    for (touched, want) in [(1, some(1)), (4_096, some(4_096)), (4_097, whole)] {
+        decides_after(&rt, &exchange, &mut outlet, touched, want);
+    }
+    equals(&rt, outlet.last(), Last::Done(whole));
     let_go(exchange, outlet);
+}
+
+/// Of 12,000 routes the first 5,121 are touched, as of so many together: all then, or those that are listed; a turn decides all.
+fn are_touched(
+    rt: &impl Abort,
+    exchange: &Exchange,
+    outlet: &mut Outlet,
+    together: usize,
+    is_all: bool,
+) {
+    exchange.touch_together(rt, outlet, 0..5_121, together);
+    equals(rt, outlet.is_all_touched(), is_all);
+    exchange.decides(rt, outlet, all(12_000));
 }
 
 /// A list of touches is full with 5,120 of them. Where no more than half of all are touched together, it grows.
@@ -205,12 +225,9 @@ fn all_is_touched_where_most_are_touched_together(rt: HostRuntime) {
     let mut outlet = exchange.outlet(&rt, CLIENT);
     is_so(&rt, outlet.is_all_touched(), "nothing is decided");
     exchange.decides(&rt, &mut outlet, all(12_000));
-    exchange.touch_together(&rt, &mut outlet, 0..5_121, 6_000);
-    is_so(&rt, !outlet.is_all_touched(), "some are listed");
-    exchange.decides(&rt, &mut outlet, all(12_000));
-    exchange.touch_together(&rt, &mut outlet, 0..5_121, 6_001);
-    is_so(&rt, outlet.is_all_touched(), "none is listed");
-    exchange.decides(&rt, &mut outlet, all(12_000));
+    for (together, is_all) in [(6_000, false), (6_001, true)] {
+        are_touched(&rt, &exchange, &mut outlet, together, is_all);
+    }
     let_go(exchange, outlet);
 }
 
@@ -223,9 +240,7 @@ fn withdraw(rt: &impl Abort, exchange: &mut Exchange, count: u32) {
 
 #[test]
 fn a_whole_turn_counts_what_it_passes_over(rt: HostRuntime) {
-    let mut exchange = Exchange::with_routes(&rt, rt.alloc(), 40_000);
-    let mut outlet = exchange.outlet(&rt, CLIENT);
-    exchange.decides(&rt, &mut outlet, all(40_000));
+    let (mut exchange, mut outlet) = decided(&rt, rt.alloc(), 40_000);
     withdraw(&rt, &mut exchange, 6_000);
     // what was withdrawn stands in the Loc-RIB still
     decides_after(&rt, &exchange, &mut outlet, 6_000, all(40_000));
@@ -249,9 +264,7 @@ fn tells_again(rt: &impl Abort, exchange: &Exchange, outlet: &mut Outlet, told: 
 
 #[test]
 fn all_is_told_again(rt: HostRuntime) {
-    let exchange = Exchange::with_routes(&rt, rt.alloc(), 3_000);
-    let mut outlet = exchange.outlet(&rt, CLIENT);
-    exchange.decides(&rt, &mut outlet, all(3_000));
+    let (exchange, mut outlet) = decided(&rt, rt.alloc(), 3_000);
     let first = drain(&rt, &exchange, &mut outlet);
     is_drained(&rt, &outlet);
     // 3,000 prefixes of 4 octets each, in messages of at most 4,096 octets
@@ -263,9 +276,7 @@ fn all_is_told_again(rt: HostRuntime) {
 
 #[test]
 fn all_is_told_again_to_one_who_took_a_part(rt: HostRuntime) {
-    let exchange = Exchange::with_routes(&rt, rt.alloc(), 3_000);
-    let mut outlet = exchange.outlet(&rt, CLIENT);
-    exchange.decides(&rt, &mut outlet, all(3_000));
+    let (exchange, mut outlet) = decided(&rt, rt.alloc(), 3_000);
     let first = drain(&rt, &exchange, &mut outlet);
     outlet.again();
     outlet.begin(&exchange.tables);
@@ -316,7 +327,14 @@ fn has_from(rt: &impl Abort, exchange: &Exchange, outlet: &Outlet, from: (u32, u
     equals(rt, count, want);
 }
 
-/// The prefixes are those of `routes_rise`.
+/// Prefixes, of those of `routes_rise`, and how many routes there are from each on.
+static FROM: [((u32, u8), usize); 4] = [
+    ((0, 0), 6),
+    ((0x0a71_0f00, 24), 5),
+    ((0x0a71_0f00, 25), 4),
+    ((0x0bf4_0d00, 24), 0),
+];
+
 #[test]
 fn routes_from_a_prefix_on(rt: HostRuntime) {
     let exchange = Exchange::with_routes(&rt, rt.alloc(), 6);
@@ -324,9 +342,8 @@ fn routes_from_a_prefix_on(rt: HostRuntime) {
     equals(&rt, outlet.count(), 0);
     exchange.decides(&rt, &mut outlet, all(6));
     equals(&rt, outlet.count(), 6);
-    has_from(&rt, &exchange, &outlet, (0, 0), 6);
-    has_from(&rt, &exchange, &outlet, (0x0a71_0f00, 24), 5);
-    has_from(&rt, &exchange, &outlet, (0x0a71_0f00, 25), 4);
-    has_from(&rt, &exchange, &outlet, (0x0bf4_0d00, 24), 0);
+    for (from, want) in &FROM {
+        has_from(&rt, &exchange, &outlet, *from, *want);
+    }
     let_go(exchange, outlet);
 }

@@ -1,4 +1,6 @@
-//! Worked examples of a small exchange, by calls of the core and over a link in memory.
+//! Worked examples of a small exchange, by calls of the core and over a link in memory. What is seen in what members are
+//! sent is in recorded sessions: `examples/sessions`, of which `busy`, `busy_session_stays`, `limit_of_prefixes` and
+//! `limit_of_prefixes_is_kept` are how sessions come up and end.
 
 mod asking;
 mod commands;
@@ -8,6 +10,5 @@ mod endings;
 mod exchange;
 mod link;
 mod routes;
-mod sessions;
 mod tables;
 mod turns;

@@ -7,28 +7,40 @@ fn has_number(rt: &impl Abort, ins: &AdjIns, of: (u32, u8), want: Option<u32>) {
     equals(rt, ins.number(prefix(rt, of)), want);
 }
 
+/// A number is given up, or kept.
+fn releases(rt: &impl Abort, ins: &mut AdjIns, number: u32, want: bool) {
+    equals(rt, ins.release(number), want);
+}
+
+/// There are so many numbers, of which 2 is this prefix's, or nobody's.
+fn has_2(rt: &impl Abort, ins: &AdjIns, count: usize, of: Option<(u32, u8)>) {
+    equals(rt, ins.numbers(), count);
+    let found = ins.prefix(2).map(|it| (it.bits(), it.len()));
+    equals(rt, found, of);
+}
+
+/// Of a prefix that others hold, the number is kept; of one that nobody holds, it is given up.
+fn are_kept_while_held(rt: &impl Abort, ins: &mut AdjIns) {
+    releases(rt, ins, 2, false);
+    clear(rt, ins, 0);
+    has_number(rt, ins, INNER, Some(2));
+    releases(rt, ins, 2, true);
+    has_number(rt, ins, INNER, None);
+}
+
 /// A number stays until it is given up, which it isn't while a client has a route there, and then
 /// serves another prefix.
 #[test]
 fn numbers_stay_until_given_up(rt: HostRuntime) {
-    let alloc = rt.alloc();
-    let mut ins = filled(&rt, alloc);
+    let mut ins = filled(&rt, rt.alloc());
     let other = (0x0b00_0000, 8);
     has_number(&rt, &ins, WIDE, Some(0));
-    has_number(&rt, &ins, INNER, Some(2));
-    equals(&rt, ins.numbers(), 3);
-    is_so(&rt, !ins.release(2), "kept");
-    clear(&rt, &mut ins, 0);
-    has_number(&rt, &ins, INNER, Some(2));
-    is_so(&rt, ins.release(2), "given up");
-    has_number(&rt, &ins, INNER, None);
-    equals(&rt, ins.prefix(2), None);
-    let one = attrs(&rt, alloc, 1);
-    put(&rt, &mut ins, 1, other, &one);
+    has_2(&rt, &ins, 3, Some(INNER));
+    are_kept_while_held(&rt, &mut ins);
+    has_2(&rt, &ins, 3, None);
+    put_one(&rt, rt.alloc(), &mut ins, 1, other, 1);
     has_number(&rt, &ins, other, Some(2));
-    equals(&rt, ins.prefix(2), Some(prefix(&rt, other)));
-    equals(&rt, ins.numbers(), 3);
-    let_attrs_go(one);
+    has_2(&rt, &ins, 3, Some(other));
     let_go(ins);
 }
 
@@ -114,27 +126,46 @@ fn has_route(rt: &impl Abort, ins: &AdjIns, client: usize, of: (u32, u8), want: 
     equals(rt, route(rt, ins, client, of), want);
 }
 
+/// Who has a route for which prefix, with which last octet of its next hop.
+static ROUTES: [(usize, (u32, u8), Option<u32>); 4] = [
+    (1, INNER, Some(1)),
+    (2, INNER, Some(2)),
+    (0, INNER, None),
+    (1, WIDE, None),
+];
+
+/// Routes that are withdrawn: one that a client has, or has not, or None where the prefix has no number.
+static WITHDRAWN: [(usize, (u32, u8), Option<bool>); 3] = [
+    (0, INNER, Some(false)),
+    (1, INNER, Some(true)),
+    (1, WIDE, None),
+];
+
+/// Routes of two clients for one prefix, of which one comes twice.
+fn put_routes(rt: &impl Abort, alloc: Global, ins: &mut AdjIns) {
+    let one = attrs(rt, alloc, 1);
+    let two = attrs(rt, alloc, 2);
+    changes_at(rt, ins, 1, INNER, &one, true);
+    changes_at(rt, ins, 1, INNER, &one, false);
+    changes_at(rt, ins, 2, INNER, &two, true);
+    let_attrs_go(one);
+    let_attrs_go(two);
+}
+
 #[test]
 fn routes_by_number_are_routes_by_prefix(rt: HostRuntime) {
     let alloc = rt.alloc();
     let mut ins = tables(&rt, alloc, 3);
-    let one = attrs(&rt, alloc, 1);
-    let two = attrs(&rt, alloc, 2);
-    changes_at(&rt, &mut ins, 1, INNER, &one, true);
-    changes_at(&rt, &mut ins, 1, INNER, &one, false);
-    changes_at(&rt, &mut ins, 2, INNER, &two, true);
-    has_route(&rt, &ins, 1, INNER, Some(1));
-    has_route(&rt, &ins, 2, INNER, Some(2));
-    has_route(&rt, &ins, 0, INNER, None);
-    has_route(&rt, &ins, 1, WIDE, None);
+    put_routes(&rt, alloc, &mut ins);
+    for (client, of, want) in &ROUTES {
+        has_route(&rt, &ins, *client, *of, *want);
+    }
     holds(&rt, alloc, &ins, 1, &[INNER]);
-    withdraws_at(&rt, &mut ins, 0, INNER, Some(false));
-    withdraws_at(&rt, &mut ins, 1, INNER, Some(true));
-    withdraws_at(&rt, &mut ins, 1, WIDE, None);
+    for (client, of, want) in &WITHDRAWN {
+        withdraws_at(&rt, &mut ins, *client, *of, *want);
+    }
     has_route(&rt, &ins, 1, INNER, None);
     are_at(&rt, alloc, &ins, INNER, &[(2, 2)]);
-    let_attrs_go(one);
-    let_attrs_go(two);
     let_go(ins);
 }
 

@@ -14,16 +14,26 @@ fn new_tables_are_empty(rt: HostRuntime) {
     let_go(ins);
 }
 
+/// What clients hold.
+static HELD: [(usize, &[(u32, u8)]); 3] = [(0, &ALL_THREE), (1, &[WIDE, OTHER]), (2, &[WIDE])];
+
+/// Who has a route for which prefix.
+static ROUTES: [((u32, u8), &[(usize, u32)]); 3] = [
+    (WIDE, &[(0, 1), (1, 1), (2, 2)]),
+    (INNER, &[(0, 2)]),
+    (OTHER, &[(0, 1), (1, 2)]),
+];
+
 #[test]
 fn routes_are_listed_in_order(rt: HostRuntime) {
     let alloc = rt.alloc();
     let ins = filled(&rt, alloc);
-    holds(&rt, alloc, &ins, 0, &ALL_THREE);
-    holds(&rt, alloc, &ins, 1, &[WIDE, OTHER]);
-    holds(&rt, alloc, &ins, 2, &[WIDE]);
-    are_at(&rt, alloc, &ins, WIDE, &[(0, 1), (1, 1), (2, 2)]);
-    are_at(&rt, alloc, &ins, INNER, &[(0, 2)]);
-    are_at(&rt, alloc, &ins, OTHER, &[(0, 1), (1, 2)]);
+    for (client, want) in &HELD {
+        holds(&rt, alloc, &ins, *client, want);
+    }
+    for (of, want) in &ROUTES {
+        are_at(&rt, alloc, &ins, *of, want);
+    }
     are_candidates(&rt, alloc, &ins, WIDE, &FOR_WIDE);
     are_held(&rt, alloc, &ins, &BY_ALL);
     let_go(ins);
@@ -54,18 +64,28 @@ fn changes(
     equals(rt, put(rt, ins, client, of, attrs), want);
 }
 
+/// Client 1 puts a route that it has, and then others in its place and beside it.
+fn put_others(rt: &impl Abort, ins: &mut AdjIns, same: &Arc<Attrs>, other: &Arc<Attrs>) {
+    changes(rt, ins, 1, OTHER, same, false);
+    changes(rt, ins, 1, OTHER, other, true);
+    changes(rt, ins, 1, INNER, other, true);
+}
+
+/// They are there.
+fn are_others(rt: &impl Abort, alloc: Global, ins: &AdjIns) {
+    are_at(rt, alloc, ins, OTHER, &[(0, 1), (1, 3)]);
+    are_at(rt, alloc, ins, INNER, &[(0, 2), (1, 3)]);
+    holds(rt, alloc, ins, 1, &ALL_THREE);
+}
+
 #[test]
 fn put_tells_whether_the_value_changed(rt: HostRuntime) {
     let alloc = rt.alloc();
     let mut ins = filled(&rt, alloc);
     let same = attrs(&rt, alloc, 2);
     let other = attrs(&rt, alloc, 3);
-    changes(&rt, &mut ins, 1, OTHER, &same, false);
-    changes(&rt, &mut ins, 1, OTHER, &other, true);
-    changes(&rt, &mut ins, 1, INNER, &other, true);
-    are_at(&rt, alloc, &ins, OTHER, &[(0, 1), (1, 3)]);
-    are_at(&rt, alloc, &ins, INNER, &[(0, 2), (1, 3)]);
-    holds(&rt, alloc, &ins, 1, &ALL_THREE);
+    put_others(&rt, &mut ins, &same, &other);
+    are_others(&rt, alloc, &ins);
     // It and two routes share them, and the table of sets twice: by their order and by their number.
     equals(&rt, Arc::strong_count(&other), 5);
     let_attrs_go(same);
@@ -112,7 +132,7 @@ fn clear_takes_one_clients_routes(rt: HostRuntime) {
         &ins,
         &[(WIDE.0, WIDE.1, 2), (OTHER.0, OTHER.1, 1)],
     );
-    put_one(&rt, alloc, &mut ins, 0, OTHER);
+    put_one(&rt, alloc, &mut ins, 0, OTHER, 1);
     are_candidates(
         &rt,
         alloc,
@@ -123,13 +143,6 @@ fn clear_takes_one_clients_routes(rt: HostRuntime) {
     let_go(ins);
 }
 
-/// Puts a route with NEXT_HOP 192.0.2.1.
-fn put_one(rt: &impl Abort, alloc: Global, ins: &mut AdjIns, client: usize, of: (u32, u8)) {
-    let one = attrs(rt, alloc, 1);
-    put(rt, ins, client, of, &one);
-    let_attrs_go(one);
-}
-
 #[test]
 fn begin_empties_and_names(rt: HostRuntime) {
     let alloc = rt.alloc();
@@ -137,7 +150,7 @@ fn begin_empties_and_names(rt: HostRuntime) {
     begin(&rt, &mut ins, 2, 7);
     holds(&rt, alloc, &ins, 2, &[]);
     are_at(&rt, alloc, &ins, WIDE, &[(0, 1), (1, 1)]);
-    put_one(&rt, alloc, &mut ins, 2, INNER);
+    put_one(&rt, alloc, &mut ins, 2, INNER, 1);
     are_candidates(&rt, alloc, &ins, INNER, &[(0, 0xc000_020a, 2), (2, 7, 1)]);
     equals(&rt, ins.clients(), 3);
     is_identified(&rt, &ins, 2, 7);

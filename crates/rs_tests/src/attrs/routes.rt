@@ -68,18 +68,28 @@ fn lacks(rt: &impl Abort, attrs: &Attrs, kind: u8) {
     is_of(rt, attrs.get(kind).is_none(), true, &("type", kind));
 }
 
+/// Attributes are those of `ROUTE`.
+fn is_route(rt: &impl Abort, attrs: &Attrs) {
+    equals(rt, attrs.origin(), Some(0));
+    gets(rt, attrs.next_hop(), Some(0xc000_020b));
+    gets(rt, attrs.med(), None);
+    lacks(rt, attrs, 4);
+}
+
+/// The path is 64496.
+fn has_path(rt: &impl Abort, attrs: &Attrs) {
+    equals(rt, attrs.path_len(), 1);
+    gets(rt, attrs.origin_as(), Some(64496));
+    has_number(rt, attrs, 64496, true);
+    has_number(rt, attrs, 64497, false);
+}
+
 #[test]
 fn a_route_of_three_attributes(rt: HostRuntime) {
     let attrs = attrs_of(&rt, rt.alloc(), &ROUTE);
-    equals(&rt, attrs.origin(), Some(0));
-    equals(&rt, attrs.path_len(), 1);
-    gets(&rt, attrs.next_hop(), Some(0xc000_020b));
-    gets(&rt, attrs.med(), None);
-    gets(&rt, attrs.origin_as(), Some(64496));
-    has_number(&rt, &attrs, 64496, true);
-    has_number(&rt, &attrs, 64497, false);
+    is_route(&rt, &attrs);
+    has_path(&rt, &attrs);
     has_like(&rt, &attrs, None, None, false);
-    lacks(&rt, &attrs, 4);
 }
 
 /// The first mandatory attribute that a field lacks.
@@ -199,22 +209,26 @@ fn paths(rt: HostRuntime) {
     }
 }
 
+/// The parts, None where one may be any, and whether a community of them is among 64496:1 and 64496:2.
+static COMMUNITIES_LIKE: [(Option<u32>, Option<u32>, bool); 8] = [
+    (Some(64496), Some(1), true),
+    (Some(64496), Some(2), true),
+    (Some(1), Some(64496), false),
+    (Some(64496), Some(3), false),
+    (Some(64496), None, true),
+    (Some(64497), None, false),
+    (Some(64496), Some(0), false),
+    // a part that 16 bits do not hold
+    (Some(65536 + 64496), None, false),
+];
+
 #[test]
 fn communities_stand_at_each_fourth_octet(rt: HostRuntime) {
-    let attrs = route_with(
-        &rt,
-        rt.alloc(),
-        b"\xc0\x08\x08\xfb\xf0\x00\x01\xfb\xf0\x00\x02",
-    );
-    has_like(&rt, &attrs, Some(64496), Some(1), true);
-    has_like(&rt, &attrs, Some(64496), Some(2), true);
-    has_like(&rt, &attrs, Some(1), Some(64496), false);
-    has_like(&rt, &attrs, Some(64496), Some(3), false);
-    has_like(&rt, &attrs, Some(64496), None, true);
-    has_like(&rt, &attrs, Some(64497), None, false);
-    has_like(&rt, &attrs, Some(64496), Some(0), false);
-    // a part that 16 bits do not hold
-    has_like(&rt, &attrs, Some(65536 + 64496), None, false);
+    let two = b"\xc0\x08\x08\xfb\xf0\x00\x01\xfb\xf0\x00\x02";
+    let attrs = route_with(&rt, rt.alloc(), two);
+    for (high, low, want) in &COMMUNITIES_LIKE {
+        has_like(&rt, &attrs, *high, *low, *want);
+    }
 }
 
 /// Whether a large community like this is among them.

@@ -1,7 +1,9 @@
 //! What clients are told of the same routes, by their rules, by the mode that they speak and by the
 //! longest message that they take; and of 100,000 routes at once.
 
-use super::{CLIENT, Exchange, SENDER, all, attrs, drain, is_drained, let_go, prefix, some};
+use super::{
+    CLIENT, Exchange, SENDER, all, attrs, decided, drain, is_drained, let_go, prefix, some,
+};
 use crate::common::{self, equals, is_of, put, shared, text_of};
 use rs_adjin::AdjIns;
 use rs_attrs::Mode;
@@ -239,9 +241,7 @@ fn change(rt: &impl Abort, exchange: &mut Exchange, outlet: &mut Outlet, first: 
 
 #[test]
 fn turns_go_on_while_100_000_wait(rt: HostRuntime) {
-    let mut exchange = Exchange::with_routes(&rt, rt.alloc(), 100_000);
-    let mut outlet = exchange.outlet(&rt, CLIENT);
-    exchange.decides(&rt, &mut outlet, all(100_000));
+    let (mut exchange, mut outlet) = decided(&rt, rt.alloc(), 100_000);
     change(&rt, &mut exchange, &mut outlet, 0);
     change(&rt, &mut exchange, &mut outlet, 1_000);
     // Each prefix is told once, as it is due at last: 49,000 of each of the first two sets in 49

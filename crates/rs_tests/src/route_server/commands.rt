@@ -1,4 +1,5 @@
-//! What the operator commands of a client's session.
+//! What the operator commands of a client's session; that its routes are told again is in the recorded session
+//! `told_again_by_the_operator`.
 
 use crate::common::is_of;
 use crate::route_server::exchange::{
@@ -8,6 +9,7 @@ use crate::route_server::link::{Said, Tape};
 use rs_core::{Ending, Event, drive};
 use rs_open::{Short, ShutdownText};
 use rs_session::Command;
+use std::alloc::Global;
 use std::process::Abort;
 
 /// Cease, Administrative Shutdown (RFC 4486, 4), with "back at 9" behind its length (RFC 9003, 2), and
@@ -56,17 +58,6 @@ fn a_session_is_ended_before_it_is_up(rt: HostRuntime) {
     exchange.let_go();
 }
 
-#[test]
-fn a_client_is_told_its_routes_again(rt: HostRuntime) {
-    let mut exchange = Exchange::with_a_route(&rt, rt.alloc(), "");
-    exchange.sends(&rt, B, &[ROUTE]);
-    exchange.command(&rt, B, Command::Refresh);
-    exchange.sends(&rt, B, &[ROUTE]);
-    exchange.sends(&rt, B, &[]);
-    exchange.sends(&rt, A, &[]);
-    exchange.let_go();
-}
-
 /// What a link is told at last of commands.
 static OF_COMMANDS: [Said; 5] = [
     Said::Took(B, 47),
@@ -76,25 +67,46 @@ static OF_COMMANDS: [Said; 5] = [
     Said::Took(B, 27),
 ];
 
+/// A link by which both members come up, and a announces its route.
+fn with_both(rt: &impl Abort, alloc: Global) -> Tape {
+    let mut link = Tape::new(alloc);
+    link.come_up(rt, A, OPEN_A);
+    link.come_up(rt, B, OPEN_B);
+    link.hear(rt, A, ROUTE);
+    link.turns_for_b(rt);
+    link
+}
+
+impl Tape {
+    /// What is touched will be decided, and b has room for it.
+    fn turns_for_b(&mut self, rt: &impl Abort) {
+        self.add(rt, Event::Turn);
+        self.room(rt, B, 5_000);
+    }
+
+    /// The operator will command this of a client, and the link of another, or the same, has room.
+    fn command(&mut self, rt: &impl Abort, c: usize, command: Command, room: usize) {
+        self.add(rt, Event::Commanded(c, command));
+        self.room(rt, room, 5_000);
+    }
+}
+
+/// What both were sent.
+fn were_sent(rt: &impl Abort, link: &Tape) {
+    link.was_told(rt, 6, &OF_COMMANDS);
+    link.was_sent(rt, A, &[OPEN_SERVER, KEEPALIVE, SHUTDOWN]);
+    link.was_sent(rt, B, &[OPEN_SERVER, KEEPALIVE, ROUTE, ROUTE, NO_ROUTE]);
+}
+
 #[test]
 fn a_link_tells_of_commands(rt: HostRuntime) {
-    let mut link = Tape::new(rt.alloc());
-    link.come_up(&rt, A, OPEN_A);
-    link.come_up(&rt, B, OPEN_B);
-    link.hear(&rt, A, ROUTE);
-    link.add(&rt, Event::Turn);
-    link.room(&rt, B, 5_000);
-    link.add(&rt, Event::Commanded(B, Command::Refresh));
-    link.room(&rt, B, 5_000);
+    let mut link = with_both(&rt, rt.alloc());
+    link.command(&rt, B, Command::Refresh, B);
     link.add(&rt, Event::Commanded(A, Command::Stop(back_at_9(&rt))));
     // There is no third client.
-    link.add(&rt, Event::Commanded(2, Command::Refresh));
-    link.room(&rt, A, 5_000);
-    link.add(&rt, Event::Turn);
-    link.room(&rt, B, 5_000);
+    link.command(&rt, 2, Command::Refresh, A);
+    link.turns_for_b(&rt);
     let mut core = server(&rt, rt.alloc(), "", "");
     drive(&rt, &mut core, &mut link);
-    link.was_told(&rt, 6, &OF_COMMANDS);
-    link.was_sent(&rt, A, &[OPEN_SERVER, KEEPALIVE, SHUTDOWN]);
-    link.was_sent(&rt, B, &[OPEN_SERVER, KEEPALIVE, ROUTE, ROUTE, NO_ROUTE]);
+    were_sent(&rt, &link);
 }

@@ -32,6 +32,12 @@ fn prefixes(rt: &impl Abort, alloc: Global, first: u32) -> Vec<u8> {
     octets
 }
 
+/// Puts octets behind how many they are.
+fn put_counted(rt: &impl Abort, octets: &mut Vec<u8>, more: &[u8]) {
+    put_count(rt, octets, more.len());
+    put(rt, octets, more);
+}
+
 /// An UPDATE of these fields.
 fn update(
     rt: &impl Abort,
@@ -40,19 +46,15 @@ fn update(
     attributes: &[u8],
     announced: &[u8],
 ) -> Vec<u8> {
-    let count = withdrawn
-        .len()
-        .saturating_add(attributes.len())
-        .saturating_add(announced.len());
+    let mut fields = Vec::new(alloc);
+    put_counted(rt, &mut fields, withdrawn);
+    put_counted(rt, &mut fields, attributes);
+    put(rt, &mut fields, announced);
     let mut octets = Vec::new(alloc);
     put(rt, &mut octets, &[0xff; 16]);
-    put_count(rt, &mut octets, count.saturating_add(23));
+    put_count(rt, &mut octets, fields.len().saturating_add(19));
     put(rt, &mut octets, &[2]);
-    put_count(rt, &mut octets, withdrawn.len());
-    put(rt, &mut octets, withdrawn);
-    put_count(rt, &mut octets, attributes.len());
-    put(rt, &mut octets, attributes);
-    put(rt, &mut octets, announced);
+    put(rt, &mut octets, &fields);
     octets
 }
 
@@ -106,24 +108,39 @@ fn cycled_prefixes_make_no_table_grow(rt: HostRuntime) {
     exchange.let_go();
 }
 
+/// From which prefix on the member announces with this ORIGIN, or withdraws, and how many sets of attributes there are then.
+static SETS: [(u32, Option<u8>, usize); 7] = [
+    (0x0a_0000, Some(0), 1),
+    (0x0b_0000, Some(0), 1),
+    (0x0c_0000, Some(1), 2),
+    // What is announced as it stands keeps its set.
+    (0x0c_0000, Some(1), 2),
+    (0x0b_0000, None, 2),
+    (0x0c_0000, None, 1),
+    (0x0a_0000, Some(2), 1),
+];
+
+/// So many sets there are.
+fn has_sets(rt: &impl Abort, exchange: &Exchange, want: usize) {
+    equals(rt, exchange.core.attribute_sets(), want);
+}
+
+/// A row's prefixes are announced or withdrawn.
+fn leaves_sets(rt: &impl Abort, exchange: &mut Exchange, row: &(u32, Option<u8>, usize)) {
+    let (first, origin, sets) = *row;
+    match origin {
+        Some(origin) => announce_with(rt, exchange, first, origin),
+        None => withdraw(rt, exchange, first),
+    }
+    has_sets(rt, exchange, sets);
+}
+
 #[test]
 fn equal_attributes_are_one_set(rt: HostRuntime) {
     let mut exchange = Exchange::of_both(&rt, rt.alloc(), "");
-    equals(&rt, exchange.core.attribute_sets(), 0);
-    announce(&rt, &mut exchange, 0x0a_0000);
-    equals(&rt, exchange.core.attribute_sets(), 1);
-    announce(&rt, &mut exchange, 0x0b_0000);
-    equals(&rt, exchange.core.attribute_sets(), 1);
-    announce_with(&rt, &mut exchange, 0x0c_0000, 1);
-    equals(&rt, exchange.core.attribute_sets(), 2);
-    // What is announced as it stands keeps its set.
-    announce_with(&rt, &mut exchange, 0x0c_0000, 1);
-    equals(&rt, exchange.core.attribute_sets(), 2);
-    withdraw(&rt, &mut exchange, 0x0b_0000);
-    equals(&rt, exchange.core.attribute_sets(), 2);
-    withdraw(&rt, &mut exchange, 0x0c_0000);
-    equals(&rt, exchange.core.attribute_sets(), 1);
-    announce_with(&rt, &mut exchange, 0x0a_0000, 2);
-    equals(&rt, exchange.core.attribute_sets(), 1);
+    has_sets(&rt, &exchange, 0);
+    for row in &SETS {
+        leaves_sets(&rt, &mut exchange, row);
+    }
     exchange.let_go();
 }

@@ -40,6 +40,29 @@ fn take_all_so_far(rt: &impl Abort, link: &mut Tape) {
     }
 }
 
+impl Tape {
+    /// It will take at most so many octets of each of the next offers; or fail.
+    fn take_each(&mut self, rt: &impl Abort, all: &[Option<usize>]) {
+        for most in all {
+            self.take(rt, *most);
+        }
+    }
+
+    /// It will tell so many times that there is room for b.
+    fn rooms_for_b(&mut self, rt: &impl Abort, times: usize) {
+        for _ in 0..times {
+            self.room(rt, B, 5_000);
+        }
+    }
+
+    /// It will tell of these events.
+    fn add_all(&mut self, rt: &impl Abort, events: &[Event]) {
+        for event in events {
+            self.add(rt, *event);
+        }
+    }
+}
+
 /// A new route server, and the link that drives it.
 #[derive(Drop)]
 struct Driven {
@@ -51,6 +74,13 @@ impl Driven {
     fn new(rt: &impl Abort, alloc: Global, link: Tape) -> Driven {
         let core = server(rt, alloc, "", "");
         Driven { core, link }
+    }
+
+    /// The same, driven to the link's first stop.
+    fn played<R: Wait + Abort>(rt: &R, alloc: Global, link: Tape) -> Driven {
+        let mut driven = Driven::new(rt, alloc, link);
+        driven.play(rt);
+        driven
     }
 
     /// Drives the route server to the link's next stop.
@@ -93,9 +123,8 @@ static ALL_SAID: [Said; 7] = [
 #[test]
 fn a_route_goes_over_a_link(rt: HostRuntime) {
     let mut link = with_a_route(&rt, rt.alloc());
-    link.room(&rt, B, 5_000);
-    let mut driven = Driven::new(&rt, rt.alloc(), link);
-    driven.play(&rt);
+    link.rooms_for_b(&rt, 1);
+    let driven = Driven::played(&rt, rt.alloc(), link);
     driven.link.was_told(&rt, 0, &ALL_SAID);
     driven.link.was_sent(&rt, A, &[OPEN_SERVER, KEEPALIVE]);
     driven
@@ -118,14 +147,9 @@ static TAKEN_IN_PARTS: [Said; 4] = [
 fn a_link_takes_nothing_or_a_part(rt: HostRuntime) {
     let mut link = with_a_route(&rt, rt.alloc());
     take_all_so_far(&rt, &mut link);
-    link.take(&rt, Some(0));
-    link.take(&rt, Some(20));
-    link.take(&rt, Some(0));
-    link.room(&rt, B, 5_000);
-    link.room(&rt, B, 5_000);
-    link.room(&rt, B, 5_000);
-    let mut driven = Driven::new(&rt, rt.alloc(), link);
-    driven.play(&rt);
+    link.take_each(&rt, &[Some(0), Some(20), Some(0)]);
+    link.rooms_for_b(&rt, 3);
+    let driven = Driven::played(&rt, rt.alloc(), link);
     driven.link.was_told(&rt, UP, &TAKEN_IN_PARTS);
     driven
         .link
@@ -147,28 +171,29 @@ static AFTER_A_FAILURE: [Said; 6] = [
 fn a_link_that_fails_is_a_loss(rt: HostRuntime) {
     let mut link = with_a_route(&rt, rt.alloc());
     take_all_so_far(&rt, &mut link);
-    link.take(&rt, Some(20));
-    link.take(&rt, None);
-    link.room(&rt, B, 5_000);
+    link.take_each(&rt, &[Some(20), None]);
+    link.rooms_for_b(&rt, 1);
     link.come_up(&rt, B, OPEN_B);
-    link.add(&rt, Event::Turn);
-    link.room(&rt, B, 5_000);
-    let mut driven = Driven::new(&rt, rt.alloc(), link);
-    driven.play(&rt);
+    link.add_all(&rt, &[Event::Turn, Event::Room(B, 5_000)]);
+    let driven = Driven::played(&rt, rt.alloc(), link);
     driven.link.was_told(&rt, UP, &AFTER_A_FAILURE);
     driven.let_go();
 }
 
+/// A part of a's route has gone to b where the link stops, and then a is lost.
+static UP_TO_A_STOP: [Event; 5] = [
+    Event::Room(B, 20),
+    Event::Stop,
+    Event::Lost(A),
+    Event::Turn,
+    Event::Room(B, 5_000),
+];
+
 #[test]
 fn a_second_drive_goes_on(rt: HostRuntime) {
     let mut link = with_a_route(&rt, rt.alloc());
-    link.room(&rt, B, 20);
-    link.add(&rt, Event::Stop);
-    link.add(&rt, Event::Lost(A));
-    link.add(&rt, Event::Turn);
-    link.room(&rt, B, 5_000);
-    let mut driven = Driven::new(&rt, rt.alloc(), link);
-    driven.play(&rt);
+    link.add_all(&rt, &UP_TO_A_STOP);
+    let mut driven = Driven::played(&rt, rt.alloc(), link);
     driven.link.was_told(&rt, UP, &[Said::Took(B, 20)]);
     driven.play(&rt);
     driven
@@ -186,20 +211,23 @@ static OF_ENDS_AND_RULES: [Said; 5] = [
     Said::End(A),
 ];
 
+/// The link will tell of rules by which b is told of nothing.
+fn replace_rules(rt: &impl Abort, alloc: Global, link: &mut Tape) {
+    let rules = text(rt, alloc, "", "", "export = [{ action = \"drop\" }]");
+    link.put_text(rt, rules.as_str());
+    link.add(rt, Event::Rules);
+}
+
 #[test]
 fn a_link_is_told_of_ends_and_rules(rt: HostRuntime) {
-    let rules = text(&rt, rt.alloc(), "", "", "export = [{ action = \"drop\" }]");
     let mut link = Tape::new(rt.alloc());
     link.come_up(&rt, A, OPEN_A);
     link.add(&rt, Event::Opened(A));
-    link.put_text(&rt, rules.as_str());
-    link.add(&rt, Event::Rules);
+    replace_rules(&rt, rt.alloc(), &mut link);
     // an OPEN is not expected any more (RFC 4271, 6.6)
     link.hear(&rt, A, OPEN_A);
-    link.room(&rt, A, 20);
-    link.room(&rt, A, 5_000);
-    let mut driven = Driven::new(&rt, rt.alloc(), link);
-    driven.play(&rt);
+    link.add_all(&rt, &[Event::Room(A, 20), Event::Room(A, 5_000)]);
+    let driven = Driven::played(&rt, rt.alloc(), link);
     driven.link.was_told(&rt, 3, &OF_ENDS_AND_RULES);
     driven.let_go();
 }

@@ -38,8 +38,6 @@ pub const IPV6_ROUTE: &str =
 /// 203.0.113.0/24 of b.
 pub const ROUTE_B: &str = "002f02000000144001010040020602010000fbf1400304c000020c18cb0071";
 
-pub const NO_ROUTE_B: &str = "001b02000418cb00710000";
-
 /// The octet that two hexadecimal digits spell.
 fn octet(pair: &[u8]) -> u8 {
     let mut octet = 0u32;
@@ -186,23 +184,12 @@ impl Exchange {
         is_so(rt, self.core.opened(c).is_ok(), "taken");
     }
 
-    /// A connection of a client comes, its OPEN and its KEEPALIVE.
-    fn connect(&mut self, rt: &impl Abort, c: usize, open: &str) {
+    /// A session of a client comes up, and its link takes what it is sent.
+    pub fn come_up(&mut self, rt: &impl Abort, c: usize, open: &str) {
         self.open(rt, c);
         self.hear(rt, c, open);
         self.hear(rt, c, KEEPALIVE);
-    }
-
-    /// A session of a client comes up, and its link takes what it is sent.
-    pub fn come_up(&mut self, rt: &impl Abort, c: usize, open: &str) {
-        self.connect(rt, c, open);
         self.sent(rt, c, 1_000);
-    }
-
-    /// A session of a client comes up, which is sent the server's OPEN and a KEEPALIVE.
-    pub fn greet(&mut self, rt: &impl Abort, c: usize, open: &str) {
-        self.connect(rt, c, open);
-        self.sends(rt, c, &[OPEN_SERVER, KEEPALIVE]);
     }
 
     /// The connection of a client is to be closed.
@@ -225,15 +212,7 @@ impl Exchange {
 
     /// A client is sent these messages, and no more.
     pub fn sends(&mut self, rt: &impl Abort, c: usize, all: &[&str]) {
-        let front = Vec::new(self.alloc);
-        self.sends_behind(rt, c, front, all);
-    }
-
-    /// With what is left for a client it was sent these messages, of which its link took a front.
-    pub fn sends_behind(&mut self, rt: &impl Abort, c: usize, front: Vec<u8>, all: &[&str]) {
-        let mut octets = front;
-        let rest = self.sent(rt, c, 5_000);
-        put(rt, &mut octets, &rest);
+        let octets = self.sent(rt, c, 5_000);
         let want = messages(rt, self.alloc, all);
         is_of(rt, octets, want, &("client", c));
     }

@@ -53,20 +53,40 @@ fn begin_so(
     equals(rt, found, want);
 }
 
+/// A client, a prefix, and the first that it is known to hold from there on, and that is due to it.
+type First = (usize, (u32, u8), Option<(u32, u8)>, Option<(u32, u8)>);
+
+/// Where each member announces its route.
+static OF_BOTH: [First; 5] = [
+    (A, (0, 0), Some(OF_A), Some(OF_B)),
+    (A, OF_A, Some(OF_A), Some(OF_B)),
+    (A, OF_B, None, Some(OF_B)),
+    (B, OF_A, Some(OF_B), Some(OF_A)),
+    (B, OF_B, Some(OF_B), None),
+];
+
+/// Each row holds of the tables.
+fn all_begin_so(rt: &impl Abort, exchange: &Exchange) {
+    for (c, from, received, due) in &OF_BOTH {
+        begin_so(rt, exchange, *c, *from, (*received, *due));
+    }
+}
+
+/// Those of b alone.
+fn are_of_b(rt: &impl Abort, exchange: &Exchange) {
+    begin_so(rt, exchange, A, (0, 0), (None, Some(OF_B)));
+    counts(rt, exchange, A, 0, 1);
+    counts(rt, exchange, B, 1, 0);
+}
+
 #[test]
 fn routes_from_a_prefix_on(rt: HostRuntime) {
     let mut exchange = Exchange::with_a_route(&rt, rt.alloc(), "");
     exchange.hear_in_turn(&rt, B, ROUTE_B);
-    begin_so(&rt, &exchange, A, (0, 0), (Some(OF_A), Some(OF_B)));
-    begin_so(&rt, &exchange, A, OF_A, (Some(OF_A), Some(OF_B)));
-    begin_so(&rt, &exchange, A, OF_B, (None, Some(OF_B)));
-    begin_so(&rt, &exchange, B, OF_A, (Some(OF_B), Some(OF_A)));
-    begin_so(&rt, &exchange, B, OF_B, (Some(OF_B), None));
+    all_begin_so(&rt, &exchange);
     counts(&rt, &exchange, A, 1, 1);
     exchange.hear_in_turn(&rt, A, NO_ROUTE);
-    begin_so(&rt, &exchange, A, (0, 0), (None, Some(OF_B)));
-    counts(&rt, &exchange, A, 0, 1);
-    counts(&rt, &exchange, B, 1, 0);
+    are_of_b(&rt, &exchange);
     exchange.let_go();
 }
 
@@ -82,22 +102,29 @@ fn are_dropped(rt: &impl Abort, exchange: &Exchange, of_a: usize, of_b: usize) {
     equals(rt, exchange.core.dropped_count(B), of_b);
 }
 
+/// So many routes of a are dropped where a message of it is heard.
+fn drops_behind(rt: &impl Abort, exchange: &mut Exchange, digits: &str, of_a: usize) {
+    exchange.hear_in_turn(rt, A, digits);
+    are_dropped(rt, exchange, of_a, 0);
+}
+
+/// So many are where these are the import rules of a.
+fn drops_by(rt: &impl Abort, exchange: &mut Exchange, rules: &str, of_a: usize) {
+    import_by(rt, exchange, rules);
+    are_dropped(rt, exchange, of_a, 0);
+}
+
 #[test]
 fn routes_that_import_rules_drop_are_counted(rt: HostRuntime) {
     let drop_all = "import = [{ action = \"drop\" }]";
     let mut exchange = Exchange::with_a_route(&rt, rt.alloc(), "");
     exchange.hear_in_turn(&rt, B, ROUTE_B);
     are_dropped(&rt, &exchange, 0, 0);
-    import_by(&rt, &mut exchange, drop_all);
-    are_dropped(&rt, &exchange, 1, 0);
-    exchange.hear_in_turn(&rt, A, ROUTE);
-    are_dropped(&rt, &exchange, 1, 0);
-    exchange.hear_in_turn(&rt, A, NO_ROUTE);
-    are_dropped(&rt, &exchange, 0, 0);
-    exchange.hear_in_turn(&rt, A, ROUTE);
-    are_dropped(&rt, &exchange, 1, 0);
-    import_by(&rt, &mut exchange, "");
-    are_dropped(&rt, &exchange, 0, 0);
+    drops_by(&rt, &mut exchange, drop_all, 1);
+    for (digits, of_a) in [(ROUTE, 1), (NO_ROUTE, 0), (ROUTE, 1)] {
+        drops_behind(&rt, &mut exchange, digits, of_a);
+    }
+    drops_by(&rt, &mut exchange, "", 0);
     import_by(&rt, &mut exchange, drop_all);
     exchange.lose(&rt, A);
     are_dropped(&rt, &exchange, 0, 0);
