@@ -32,6 +32,7 @@ from plays.checks import play_checks
 from plays.commands import play_commands
 from plays.control import play_control
 from plays.faults import play_faults
+from plays.filtering import play_filtering
 from plays.ignored import play_ignored
 from plays.matching import play_matching
 from plays.record import play_records
@@ -173,6 +174,7 @@ def play_all(crates, folder):
     yield from play_rules(replay, ROUTES, SEED)
     yield from play_faults(replay)
     yield from play_matching(replay)
+    yield from play_filtering(replay)
     yield from play_members(crates / "rs_served/out/rs_served")
     yield from play_records(crates / "rs_served/out/rs_served", replay)
     yield from play_window(crates / "rs_served/out/rs_served")
