@@ -1,5 +1,5 @@
-//! Visits over octets in memory: what is answered to requests that come whole, in parts, many at once, and to
-//! what is none. The answers are written by hand from RFC 9110 and RFC 9112.
+//! Visits over octets in memory: what is answered to requests that come whole, in parts and many at once. The answers are
+//! written by hand from RFC 9110 and RFC 9112. What is refused is played: by `tools/plays/requests.py`.
 
 use crate::common::{equals, is_of, is_so, put};
 use rs_window::page::{Kind, Next, Page, Pages, Piece};
@@ -153,14 +153,6 @@ fn is_answered(rt: &impl Abort, alloc: Global, said: &[u8], want: &[u8], is_done
     play.let_go();
 }
 
-/// The answer begins so, and the connection is closed after it or not.
-fn check(rt: &impl Abort, alloc: Global, said: &[u8], begins: &[u8], is_done: bool) {
-    let play = answer(rt, alloc, said);
-    is_so(rt, play.sent.starts_with(begins), "the front");
-    equals(rt, play.visit.is_done(), is_done);
-    play.let_go();
-}
-
 static LETTERS_ASKED: &[u8] = b"GET /letters HTTP/1.1\r\nHost: localhost:8080\r\n\r\n";
 
 static HEAD: &[u8] = b"HTTP/1.1 200 OK\r\nContent-Type: text/plain; charset=utf-8\r\n";
@@ -250,152 +242,6 @@ fn a_thousand_requests_at_once_are_answered_in_order(rt: HostRuntime) {
     play.let_go();
 }
 
-/// What is said, and what the answer begins with.
-static REFUSED_REQUESTS: [(&[u8], &[u8]); 14] = [
-    (
-        b"POST /0 HTTP/1.1\r\nHost: localhost\r\n\r\n",
-        b"HTTP/1.1 405 Method Not Allowed\r\nAllow: GET, HEAD\r\n",
-    ),
-    (
-        b"get /0 HTTP/1.1\r\nHost: localhost\r\n\r\n",
-        b"HTTP/1.1 405 ",
-    ),
-    (
-        b"\x16\x03\x01\x02\x00\x01\x00\x01\xfc\x03\x03",
-        b"HTTP/1.1 400 Bad Request\r\n",
-    ),
-    (b"GET /0\r\n", b"HTTP/1.1 400 "),
-    (b"GET /0 HTTP/2.0\r\n", b"HTTP/1.1 400 "),
-    (b"GET /0 HTTP/1.1\r\n\r\n", b"HTTP/1.1 400 "),
-    (
-        b"GET /0 HTTP/1.1\r\nHost: localhost\r\nHost: localhost\r\n\r\n",
-        b"HTTP/1.1 400 ",
-    ),
-    (
-        b"GET /0 HTTP/1.1\r\nHost: localhost\r\nContent-Length: 5\r\n\r\n",
-        b"HTTP/1.1 400 ",
-    ),
-    (
-        b"GET /0 HTTP/1.1\r\nHost: localhost\r\nTransfer-Encoding: chunked\r\n\r\n",
-        b"HTTP/1.1 400 ",
-    ),
-    (
-        b"GET /0 HTTP/1.1\r\nHost: example.org\r\n\r\n",
-        b"HTTP/1.1 403 Forbidden\r\n",
-    ),
-    (
-        b"GET /0 HTTP/1.1\r\nHost: 127.0.0.1.example.org:80\r\n\r\n",
-        b"HTTP/1.1 403 ",
-    ),
-    (
-        b"GET /0 HTTP/1.1\r\nHost: localhost.example.org\r\n\r\n",
-        b"HTTP/1.1 403 ",
-    ),
-    (b"GET /0 HTTP/1.1\r\nHost:\r\n\r\n", b"HTTP/1.1 403 "),
-    (
-        b"GET /0 HTTP/1.0\r\nHost: example.org\r\n\r\n",
-        b"HTTP/1.1 403 ",
-    ),
-];
-
-#[test]
-fn what_is_no_good_request_is_refused(rt: HostRuntime) {
-    for (said, begins) in &REFUSED_REQUESTS {
-        check(&rt, rt.alloc(), said, begins, true);
-    }
-}
-
-/// Requests to a host of this machine, and what the answer begins with.
-static OF_THIS_MACHINE: [(&[u8], &[u8]); 8] = [
-    (
-        b"GET /0 HTTP/1.1\r\nHost: LocalHost\r\n\r\n",
-        b"HTTP/1.1 200 OK\r\n",
-    ),
-    (
-        b"GET /0 HTTP/1.1\r\nhost:127.0.0.1:8080\r\n\r\n",
-        b"HTTP/1.1 200 OK\r\n",
-    ),
-    (
-        b"GET /0 HTTP/1.1\r\nHost: 192.0.2.1\r\n\r\n",
-        b"HTTP/1.1 200 OK\r\n",
-    ),
-    (
-        b"GET /0 HTTP/1.1\r\nHost: [2001:db8::1]:8080\r\n\r\n",
-        b"HTTP/1.1 200 OK\r\n",
-    ),
-    (
-        b"GET /0 HTTP/1.1\r\nHost: localhost\r\nContent-Length: 0\r\n\r\n",
-        b"HTTP/1.1 200 OK\r\n",
-    ),
-    (
-        b"\r\nGET /0 HTTP/1.1\nHost: localhost\n\n",
-        b"HTTP/1.1 200 OK\r\n",
-    ),
-    (
-        b"GET /%30 HTTP/1.1\r\nHost: localhost\r\n\r\n",
-        b"HTTP/1.1 404 Not Found\r\n",
-    ),
-    (
-        b"GET / HTTP/1.1\r\nHost: localhost\r\n\r\n",
-        b"HTTP/1.1 404 ",
-    ),
-];
-
-#[test]
-fn a_host_of_this_machine_is_answered(rt: HostRuntime) {
-    for (said, begins) in &OF_THIS_MACHINE {
-        check(&rt, rt.alloc(), said, begins, false);
-    }
-}
-
-/// Puts so many times the same octets.
-fn put_times(rt: &impl Abort, octets: &mut Vec<u8>, more: &[u8], times: usize) {
-    for _ in 0..times {
-        put(rt, octets, more);
-    }
-}
-
-/// A request with a target and a field of so many octets, and so many fields more.
-fn long_request(
-    rt: &impl Abort,
-    alloc: Global,
-    target: usize,
-    field: usize,
-    more: usize,
-) -> Vec<u8> {
-    let mut said = Vec::new(alloc);
-    put(rt, &mut said, b"GET /");
-    put_times(rt, &mut said, b"x", target);
-    put(rt, &mut said, b" HTTP/1.1\r\nHost: localhost\r\nX: ");
-    put_times(rt, &mut said, b"x", field);
-    put_times(rt, &mut said, b"\r\nY: y", more);
-    put(rt, &mut said, b"\r\n\r\n");
-    said
-}
-
-/// How the answer to a long request begins, and whether the connection is closed after it.
-fn check_long(
-    rt: &impl Abort,
-    alloc: Global,
-    lengths: (usize, usize, usize),
-    begins: &[u8],
-    is_done: bool,
-) {
-    let (target, field, more) = lengths;
-    let said = long_request(rt, alloc, target, field, more);
-    check(rt, alloc, &said, begins, is_done);
-}
-
-#[test]
-fn a_long_head_is_refused(rt: HostRuntime) {
-    // 40 octets beside the target and the field: 8,192 is the most.
-    check_long(&rt, rt.alloc(), (0, 8152, 0), b"HTTP/1.1 404 ", false);
-    check_long(&rt, rt.alloc(), (0, 8153, 0), b"HTTP/1.1 431 ", true);
-    check_long(&rt, rt.alloc(), (8192, 0, 0), b"HTTP/1.1 414 ", true);
-    check_long(&rt, rt.alloc(), (0, 0, 30), b"HTTP/1.1 404 ", false);
-    check_long(&rt, rt.alloc(), (0, 0, 31), b"HTTP/1.1 431 ", true);
-}
-
 #[test]
 fn a_page_that_is_cut_off_has_no_end(rt: HostRuntime) {
     let want = text(&rt, rt.alloc(), CHUNKED, b"0005\r\nabcde\r\n");
@@ -415,16 +261,22 @@ fn what_was_said_before_the_end_is_answered(rt: HostRuntime) {
     play.let_go();
 }
 
+impl Play {
+    /// The visitor is late so many seconds after the start, and not before.
+    fn is_late_at(&self, rt: &impl Abort, at: u64) {
+        self.is_late(rt, at.saturating_sub(1), false);
+        self.is_late(rt, at, true);
+    }
+}
+
 #[test]
 fn a_slow_visitor_is_late(rt: HostRuntime) {
     let mut play = Play::new(&rt, rt.alloc());
     play.say(&rt, b"GET /3 HT", 1);
-    play.is_late(&rt, PATIENCE, false);
-    play.is_late(&rt, PATIENCE + 1, true);
+    play.is_late_at(&rt, PATIENCE + 1);
     play.visit.hear(b"TP/1.1\r\nHost: localhost\r\n\r\n");
     play.is_late(&rt, PATIENCE + 1, false);
     play.visit.advance(&Letters, &mut play.piece, PATIENCE);
-    play.is_late(&rt, 2 * PATIENCE, false);
-    play.is_late(&rt, 2 * PATIENCE + 1, true);
+    play.is_late_at(&rt, 2 * PATIENCE + 1);
     play.let_go();
 }

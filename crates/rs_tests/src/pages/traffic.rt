@@ -29,7 +29,7 @@ static UPDATE_ENDS: [usize; 3] = [71, 98, 140];
 /// Counts what happened where alpha said all that, beta was sent the first of its octets, and turns took 1 ms, a
 /// little more, and 3 seconds.
 pub(super) fn count(counts: &mut Counts) {
-    let (front, _) = SESSION.split_at(100);
+    let front = SESSION.get(..100).unwrap_or(&[]);
     counts.begin(0);
     counts.begin(1);
     counts.pass(Direction::Heard, 0, &SESSION);

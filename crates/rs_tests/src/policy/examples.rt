@@ -1,7 +1,5 @@
 //! The texts of the repository's examples. They stand here as they stand in `examples/`, which
-//! `make examples` compares.
-
-mod filtering;
+//! `make examples` compares. What the example of an exchange lets through is played: by `tools/plays/filtering.py`.
 
 use super::*;
 use std::process::Abort;
@@ -265,5 +263,16 @@ fn the_small_example_is_read(rt: HostRuntime) {
     is_in_as(&rt, &config, 1, 64497);
     is_reached(&rt, &config, 1, (0x7f00_0001, 17902), 0x7f00_0001);
     is_limited(&rt, &config, 1, None);
+    let_go(config);
+}
+
+#[test]
+fn the_exchange_example_is_read(rt: HostRuntime) {
+    let config = read_parts(&rt, rt.alloc(), &[EXCHANGE, EXCHANGE_LISTS]);
+    equals(&rt, config.clients(), 3);
+    speaks_of(&rt, &config, true, true, true);
+    is_named(&rt, &config, 2, "gamma");
+    is_reached(&rt, &config, 2, (0xc000_0201, 179), 0xc000_020d);
+    is_limited(&rt, &config, 2, Some(20000));
     let_go(config);
 }

@@ -1,7 +1,7 @@
 //! Routes and what the rules make of them. Attributes are given as the octets of an UPDATE.
 
 use super::*;
-use crate::common::{ROUTE, attrs, prefix, put};
+use crate::common::{ROUTE, attrs, prefix};
 use rs_attrs::{Attrs, CommunityPattern, Strip};
 use rs_octets::Prefix;
 use std::process::Abort;
@@ -11,14 +11,6 @@ static COLOURED: &[u8] = &[
     0x40, 1, 1, 0, 0x40, 2, 6, 2, 1, 0, 0, 0xfb, 0xf0, 0x40, 3, 4, 192, 0, 2, 11, 0xc0, 8, 8, 0xfb,
     0xf4, 0, 1, 0xfb, 0xf4, 0, 2,
 ];
-
-/// `ROUTE` with these octets behind it.
-pub(super) fn route_with(rt: &impl Abort, alloc: Global, rest: &[u8]) -> Attrs {
-    let mut octets = Vec::new(alloc);
-    put(rt, &mut octets, &ROUTE);
-    put(rt, &mut octets, rest);
-    attrs(rt, alloc, &octets)
-}
 
 /// A configuration of a and b with this at its top, in a's import list and in b's export list.
 pub(super) fn config(rt: &impl Abort, alloc: Global, rules: (&str, &str, &str)) -> Config {
