@@ -6,7 +6,7 @@ from . import SENTENCES
 from .candidates import Client
 from .choice import due
 from .hearing import Reader, heard
-from .octets import LONGEST
+from .octets import LONGEST, spelt_size
 from .passing import passed_on
 
 # What passed between a client and the server since its connection came, and whether the server closed it, not for a timer, a
@@ -43,13 +43,23 @@ def told(link, session):
     return found.table if found.is_good and not found.rest else None
 
 
+def asks_for_prefixes(config):
+    """A rule asks for the prefix of a route."""
+    lists = [*(it.get(kind, []) for it in config["client"] for kind in ("import", "export")), *(it["rules"] for it in config.get("rules", []))]
+    return any(key in rule for rules in lists for rule in rules for key in ("prefix", "prefix_in"))
+
+
 def differs(config, clients, receiver, table, without):
-    """The prefixes at which a client holds another route than it is to hold, by rising prefix."""
+    """The prefixes at which a client holds another route than it is to hold, by rising prefix. Where no rule asks for prefixes,
+    what is due at one is due at each of as many octets of which the clients announced the same."""
+    by_prefix, decided = asks_for_prefixes(config), {}
     for prefix in sorted({*table, *(prefix for it in clients for prefix in it.table)}):
-        best = due(config, clients, receiver, prefix, without)
-        wanted = passed_on(best, without) if best else None
-        if wanted != table.get(prefix):
-            yield prefix, wanted
+        alike = prefix if by_prefix else spelt_size(prefix), *(id(it.table.get(prefix)) for it in clients)
+        if alike not in decided:
+            best = due(config, clients, receiver, prefix, without)
+            decided[alike] = passed_on(best, without) if best else None
+        if decided[alike] != table.get(prefix):
+            yield prefix, decided[alike]
 
 
 def answer(config, links, without=None):

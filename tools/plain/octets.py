@@ -1,4 +1,5 @@
 """Prefixes, headers and messages as octets (docs/DEFINITIONS.md, "Octets"; RFC 4271, 4.1 to 4.5 and 6.1; RFC 8654; RFC 2918)."""
+import functools
 
 MARKER = b"\xff" * 16
 HEADER = len(MARKER) + 3
@@ -33,6 +34,7 @@ def spelt_size(prefix):
     return 1 + (prefix[1] + 7) // 8
 
 
+@functools.lru_cache(256)
 def prefixes(field):
     """What a field of prefixes holds (RFC 4271, 4.3 and 6.3)."""
     found = []
@@ -42,7 +44,7 @@ def prefixes(field):
             raise Malformed(f"a prefix of {length} bits")
         spelt, field = cut(field[1:], (length + 7) // 8)
         found.append(prefix_of(number(spelt.ljust(4, b"\0")), length))
-    return found
+    return tuple(found)
 
 
 def lengths(kind, longest, has_refresh):

@@ -9,9 +9,10 @@ The plain function says what each client is to hold (`holding.py`).
 - Each session with rooms of one octet in place of its rooms: the octets of each client, joined, must be the same.
 - A loss of the connection behind so many octets of an UPDATE that were taken, or heard, each number that there is.
 - What member a says in the recorded sessions, each OPEN, KEEPALIVE and UPDATE, cut behind each octet and then lost, and
-  with each octet as 00, as ff and one greater, while its session is in OpenSent and in Established: no session but a's
-  ends, and a's only where what it said is at fault. Many are played one behind the other, each by connections of its own.
-  Of sessions about rules, which differ in values alone, a message counts where none before it has its form.
+  with each octet as 00, as ff and one greater (of long ones behind the first 512 with each fifth), while its session is in
+  OpenSent and in Established: no session but a's ends, and a's only where what it said is at fault. Many are played one behind
+  the other, each by connections of its own. Of sessions about rules, which differ in values alone, a message counts where none
+  before it has its form.
 """
 import collections
 import itertools
@@ -30,6 +31,8 @@ from .read_rules import AS_PATH, read_attributes
 READINGS = [it for it in SENTENCES if it != "place"]
 # How many sessions are played one behind the other in one run.
 AT_ONCE = 200
+# So many octets at the front of a message are cut and changed one by one.
+FRONT = 512
 MARKER = "ff" * 16
 KEEPALIVE = MARKER + "001304"
 # The OPENs of the members of examples/four_members.toml, and a's as a two-octet peer.
@@ -202,9 +205,15 @@ def corpus(folder):
     return [(name, is_four, message) for (is_four, message), name in found.items()]
 
 
+def places(octets):
+    """Where a message is cut and changed: at each of its first octets, and at each fifth of a long one behind them, which meets
+    all octets that a prefix of /24 has."""
+    return [*range(min(len(octets), FRONT)), *range(FRONT, len(octets), 5)]
+
+
 def forms(octets):
     """The lines by which a says a message that is cut, and then is lost, and one in which an octet is changed."""
-    for at in range(len(octets)):
+    for at in places(octets):
         yield [f"octets a {octets[: at + 1].hex()}", "lost a"]
         for changed in {0, 255, (octets[at] + 1) % 256} - {octets[at]}:
             yield [f"octets a {(octets[:at] + bytes([changed]) + octets[at + 1 :]).hex()}"]
