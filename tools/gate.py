@@ -4,8 +4,8 @@
 Runs `rt ci` at the top of the repository and passes on what it prints. Meanwhile it looks, every two
 seconds, at the processes of the prover and of the compilers; from that it prints how long each crate's
 proofs, tests and edits took. Then it plays each session of examples/sessions to the built rs_replay, and two members to the
-built rs_served, records one and plays the record, and gives both programs configurations. It holds what the members of these sessions are sent against the plain
-function (`plain`): of their fronts, with losses, cut and changed octets, refused memory and without threads, and of random
+built rs_served, records one and plays the record, and gives both programs configurations. It holds what the members of these sessions are sent against the
+plain function (`plain`): of their fronts, with losses, cut and changed octets, refused memory and without threads, and of random
 sessions. It plays hostile members to the built rs_served, those whose play takes seconds. It runs tests
 of calls that take no memory where requests are counted and a test of outlets where memory is refused, compares the example
 configurations with those that are tested, and looks whether what the pages name is there. The last line is 'N passed, M failed'
