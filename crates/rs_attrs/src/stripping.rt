@@ -1,6 +1,6 @@
 //! Communities that are taken out of a route before it is passed on.
 
-ghost use Rattle.std.specs.Prelude.{◌≡◌, ◌≢◌, ℕ, false, ◌||◌, ◌<◌, ◌≤◌, ◌*◌, ◌^◌, ◌++◌, length, IsTrue, IfOk};
+ghost use Rattle.std.specs.Prelude.{◌≡◌, ◌≢◌, ℕ, false, ◌||◌, ◌<◌, ◌≤◌, ◌*◌, ◌^◌, ◌++◌, length, map, IsTrue, IfOk};
 ghost use Rattle.std.specs.List.{flat_map, list_any};
 ghost use Rattle.std.specs.Int.{w32, to_be_bytes};
 ghost use Rattle.rs_attrs.specs.declared.patterns.LargeCommunity.{LargeCommunity};
@@ -35,6 +35,37 @@ pub struct Strip<'a> {
     pub all_large: bool,
 }
 
+/// Whether two lists of patterns are the same.
+fn is_same_list(some: &[CommunityPattern], other: &[CommunityPattern]) -> bool
+    ensures { IsTrue result → some.now ≡ other.now }
+{
+    some == other
+}
+
+/// Whether two lists of patterns of large communities are the same.
+fn is_same_large_list(some: &[LargeCommunityPattern], other: &[LargeCommunityPattern]) -> bool
+    ensures { IsTrue result → some.now ≡ other.now }
+{
+    some == other
+}
+
+/// Whether two pairs of lists are the same.
+fn are_same(some: &[&[CommunityPattern]; 2], others: &[&[CommunityPattern]; 2]) -> bool
+    ensures { IsTrue result → map (λ patterns. patterns.now) some.now ≡ map (λ patterns. patterns.now) others.now }
+{
+    is_same_list(some[0], others[0]) && is_same_list(some[1], others[1])
+}
+
+/// Whether two pairs of lists of patterns of large communities are the same.
+fn are_same_large(
+    some: &[&[LargeCommunityPattern]; 2],
+    others: &[&[LargeCommunityPattern]; 2],
+) -> bool
+    ensures { IsTrue result → map (λ patterns. patterns.now) some.now ≡ map (λ patterns. patterns.now) others.now }
+{
+    is_same_large_list(some[0], others[0]) && is_same_large_list(some[1], others[1])
+}
+
 impl Strip<'_> {
     /// Whether no community is taken out, whatever it is.
     fn takes_none(&self) -> bool
@@ -48,6 +79,19 @@ impl Strip<'_> {
         ensures { IsTrue result → (community : LargeCommunity) → is_stripped_large (taken_by self.now) community ≡ false }
     {
         !self.all_large && self.large.iter().all(|patterns| patterns.is_empty())
+    }
+
+    /// Whether both take out by the same patterns.
+    pub fn is_same(&self, other: &Strip<'_>) -> bool
+        ensures { IsTrue result → taken_by self.now ≡ taken_by other.now }
+    {
+        if self.all_communities != other.all_communities {
+            return false;
+        }
+        if self.all_large != other.all_large {
+            return false;
+        }
+        are_same(&self.communities, &other.communities) && are_same_large(&self.large, &other.large)
     }
 
     /// Whether this community is taken out.

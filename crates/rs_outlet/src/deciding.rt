@@ -1,8 +1,9 @@
 //! What is due to a client at one prefix (RFC 4271, 9.1; RFC 7947, 2.3).
 
-ghost use Rattle.std.specs.Prelude.{◌≡◌, ◌<◌, ◌++◌, length, map, Some, None, IfOk, OnOk, All, option_map, option_and_then, slice_get};
+ghost use Rattle.std.specs.Prelude.{◌≡◌, ◌<◌, ◌++◌, length, map, Some, None, IfOk, OnOk, All, IfSome, option_map, option_and_then, slice_get};
 ghost use Rattle.std.specs.List.{filter_map};
 ghost use Rattle.std.specs.Arc.{arc_value};
+ghost use Rattle.rs_attrs.specs.Stripping.{stripped_of, taken_by};
 ghost use Rattle.rs_adjin.specs.AdjIns.{client_count, held_of, identifier_of, number_of, ListsHolders};
 ghost use Rattle.rs_policy.specs.Judged.{judged};
 ghost use Rattle.rs_policy.specs.Noted.{note_of_import};
@@ -14,7 +15,7 @@ ghost use Rattle.rs_outlet.specs.Decided.Passing.{attributes_passed, due_alone, 
 
 use crate::answers::Speech;
 use rs_adjin::{AdjIns, Holder, Holders};
-use rs_attrs::{Attrs, stripped};
+use rs_attrs::{Attrs, Strip, stripped};
 use rs_decision::{Rank, best};
 use rs_octets::Prefix;
 use rs_packer::fits;
@@ -30,18 +31,40 @@ pub(crate) struct Sources<'a> {
     pub(crate) client: usize,
 }
 
-/// What one decision of a turn leaves to the next: room for ranks, and the last attributes that rules made.
+/// A route that rules changed: what its sender announced, what is taken out of it, and what is left.
 #[derive(Drop)]
-pub(crate) struct Draft {
-    ranks: Vec<Rank>,
-    stripped: Option<Arc<Attrs>>,
+pub(crate) struct Changed<'a> {
+    whole: Arc<Attrs>,
+    strip: Strip<'a>,
+    rest: Arc<Attrs>,
+    ghost left: { arc_value rest ≡ stripped_of (taken_by strip) (arc_value whole) },
 }
 
-impl Draft {
-    pub(crate) fn new(alloc: Global) -> Draft {
+impl Changed<'_> {
+    /// What is left of these attributes by these patterns, where it is they that were changed.
+    fn rest_of(&self, attrs: &Attrs, strip: &Strip<'_>) -> Option<&Arc<Attrs>>
+        ensures { IfSome result (λ rest. arc_value rest.now ≡ stripped_of (taken_by strip.now) attrs.now) }
+    {
+        if *self.whole == *attrs && self.strip.is_same(strip) {
+            Some(&self.rest)
+        } else {
+            None
+        }
+    }
+}
+
+/// What one decision of a turn leaves to the next: room for ranks, and the last route that rules changed.
+#[derive(Drop)]
+pub(crate) struct Draft<'a> {
+    ranks: Vec<Rank>,
+    last: Option<Changed<'a>>,
+}
+
+impl<'a> Draft<'a> {
+    pub(crate) fn new(alloc: Global) -> Draft<'a> {
         Draft {
             ranks: Vec::new(alloc),
-            stripped: None,
+            last: None,
         }
     }
 }
@@ -148,32 +171,65 @@ fn rank_all(
     Ok(())
 }
 
-/// An owner of attributes that rules made: where the last ones are equal, of these. So routes that one UPDATE
-/// announced, which are decided one after the other, share one copy.
-fn share(
-    alloc: Global,
-    rest: Attrs,
-    last: &mut Option<Arc<Attrs>>,
-) -> Result<Arc<Attrs>, AllocError>
+/// An owner of attributes that rules made: where the last ones are equal, of these.
+fn share(alloc: Global, rest: Attrs, last: &Option<Changed<'_>>) -> Result<Arc<Attrs>, AllocError>
     ensures { IfOk result (λ attrs. arc_value attrs ≡ rest) }
 {
-    if let Some(same) = last {
-        if **same == rest {
-            return same.clone();
+    if let Some(changed) = last {
+        if *changed.rest == rest {
+            return changed.rest.clone();
         }
     }
-    let made = Arc::new(alloc, rest)?;
-    *last = Some(made.clone()?);
-    Ok(made)
+    Ok(Arc::new(alloc, rest)?)
+}
+
+/// What these patterns leave of a route, which is kept for the next one. So routes that one UPDATE
+/// announced, which are decided one after the other, are changed once, and share one copy.
+fn strip_anew<'a>(
+    alloc: Global,
+    whole: &Arc<Attrs>,
+    strip: Strip<'a>,
+    last: &mut Option<Changed<'a>>,
+) -> Result<Arc<Attrs>, AllocError>
+    ensures { IfOk result (λ rest. arc_value rest ≡ stripped_of (taken_by strip.entry) (arc_value whole.now)) }
+{
+    let rest = share(alloc, stripped(alloc, whole, &strip)?, last)?;
+    *last = Some(Changed {
+        whole: whole.clone()?,
+        strip,
+        rest: rest.clone()?,
+    });
+    Ok(rest)
+}
+
+/// The route without what these patterns take out of it, if that is something.
+fn strip_from<'a>(
+    alloc: Global,
+    whole: &'a Arc<Attrs>,
+    strip: Strip<'a>,
+    last: &mut Option<Changed<'a>>,
+) -> Result<Passed<'a>, AllocError>
+    ensures { IfOk result (λ passed. attributes_passed passed ≡ stripped_of (taken_by strip.entry) (arc_value whole.now)) }
+{
+    if let Some(changed) = last {
+        if let Some(rest) = changed.rest_of(whole, &strip) {
+            return Ok(Passed::Stripped(rest.clone()?));
+        }
+    }
+    if strip.changes(whole) {
+        Ok(Passed::Stripped(strip_anew(alloc, whole, strip, last)?))
+    } else {
+        Ok(Passed::Whole(whole))
+    }
 }
 
 /// The route as it is passed on.
 fn pass_on<'a>(
     alloc: Global,
-    sources: &Sources<'_>,
+    sources: &Sources<'a>,
     prefix: &Prefix,
     holder: &Holder<'a>,
-    last: &mut Option<Arc<Attrs>>,
+    last: &mut Option<Changed<'a>>,
 ) -> Result<Option<Passed<'a>>, AllocError>
     requires client { sources.now.client < length sources.now.config.now.clients }
     requires known { holder.now.client < length sources.now.config.now.clients }
@@ -189,14 +245,7 @@ fn pass_on<'a>(
         holder.note,
     ) {
         Fate::Drop => Ok(None),
-        Fate::Pass { strip, .. } => {
-            if strip.changes(holder.attrs) {
-                let rest = stripped(alloc, holder.attrs, &strip)?;
-                Ok(Some(Passed::Stripped(share(alloc, rest, last)?)))
-            } else {
-                Ok(Some(Passed::Whole(holder.attrs)))
-            }
-        }
+        Fate::Pass { strip, .. } => Ok(Some(strip_from(alloc, holder.attrs, strip, last)?)),
     }
 }
 
@@ -214,11 +263,11 @@ fn if_fits<'a>(speech: Speech, prefix: &Prefix, passed: Passed<'a>) -> Option<Pa
 /// The route as it is passed on, where it fits.
 fn pass_fitting<'a>(
     alloc: Global,
-    sources: &Sources<'_>,
+    sources: &Sources<'a>,
     speech: Speech,
     prefix: &Prefix,
     holder: &Holder<'a>,
-    last: &mut Option<Arc<Attrs>>,
+    last: &mut Option<Changed<'a>>,
 ) -> Result<Option<Passed<'a>>, AllocError>
     requires client { sources.now.client < length sources.now.config.now.clients }
     requires known { holder.now.client < length sources.now.config.now.clients }
@@ -234,11 +283,11 @@ fn pass_fitting<'a>(
 /// What is due where one client alone holds the prefix: nothing is compared.
 fn decide_alone<'a>(
     alloc: Global,
-    sources: &Sources<'_>,
+    sources: &Sources<'a>,
     speech: Speech,
     prefix: &Prefix,
     holder: &Holder<'a>,
-    last: &mut Option<Arc<Attrs>>,
+    last: &mut Option<Changed<'a>>,
 ) -> Result<Option<Passed<'a>>, AllocError>
     requires client { sources.now.client < length sources.now.config.now.clients }
     requires known { holder.now.client < length sources.now.config.now.clients }
@@ -260,7 +309,7 @@ fn decide_among<'a>(
     number: u32,
     prefix: &Prefix,
     holders: Holders<'a>,
-    draft: &mut Draft,
+    draft: &mut Draft<'a>,
 ) -> Result<Option<Passed<'a>>, AllocError>
     requires number { number_of sources.now.ins.now prefix.now ≡ Some number }
     requires holders { ListsHolders sources.now.ins.now prefix.now (map (λ h. h.0) holders) }
@@ -278,7 +327,7 @@ fn decide_among<'a>(
     let Some(holder) = sources.ins.noted_at(rank.place, number) else {
         return Ok(None);
     };
-    pass_fitting(alloc, sources, speech, prefix, &holder, &mut draft.stripped)
+    pass_fitting(alloc, sources, speech, prefix, &holder, &mut draft.last)
 }
 
 /// What is due to the client at a prefix: the best of the candidates, as it is passed on, where it fits.
@@ -288,7 +337,7 @@ pub(crate) fn decide<'a>(
     speech: Speech,
     number: u32,
     prefix: &Prefix,
-    draft: &mut Draft,
+    draft: &mut Draft<'a>,
 ) -> Result<Option<Passed<'a>>, AllocError>
     requires number { number_of sources.now.ins.now prefix.now ≡ Some number }
     requires server { AreOfOneServer sources.now }
@@ -300,6 +349,6 @@ pub(crate) fn decide<'a>(
     }
     match holders.next() {
         None => Ok(None),
-        Some(holder) => decide_alone(alloc, sources, speech, prefix, &holder, &mut draft.stripped),
+        Some(holder) => decide_alone(alloc, sources, speech, prefix, &holder, &mut draft.last),
     }
 }

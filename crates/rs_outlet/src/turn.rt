@@ -57,14 +57,14 @@ fn is_own(row: Option<&Row>, prefix: &Prefix) -> bool
 
 /// Decides a prefix, and lists it where something else is due than before. It is refused where the row
 /// of the number has another prefix.
-fn decide_one(
+fn decide_one<'a>(
     alloc: Global,
-    sources: &Sources<'_>,
+    sources: &Sources<'a>,
     speech: Speech,
     rows: &Rows,
     number: u32,
     prefix: Prefix,
-    draft: &mut Draft,
+    draft: &mut Draft<'a>,
     changes: &mut Vec<Change>,
 ) -> Result<(), AllocError>
     requires number { number_of sources.now.ins.now prefix ≡ Some number }
@@ -175,13 +175,13 @@ fn decide_stale(
 
 /// Decides the prefix of a number, if a client holds it or it stands in the Loc-RIB, and answers
 /// whether it did.
-fn decide_number(
+fn decide_number<'a>(
     alloc: Global,
-    sources: &Sources<'_>,
+    sources: &Sources<'a>,
     speech: Speech,
     rows: &Rows,
     number: u32,
-    draft: &mut Draft,
+    draft: &mut Draft<'a>,
     changes: &mut Vec<Change>,
 ) -> Result<bool, AllocError>
     requires server { AreOfOneServer sources.now }

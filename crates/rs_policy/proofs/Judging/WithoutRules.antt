@@ -1,10 +1,12 @@
 -- Where neither list has a rule, what becomes of a route is the default's.
-use Rattle.std.proofs.Common.{◌≡◌, ℕ, List, [], find, sym, ap}
+use Rattle.std.proofs.Common.{◌≡◌, ◌∙◌, ℕ, Some, List, [], find, sym, ap, refl}
 use Rattle.rs_octets.specs.Prefixes.{Prefix}
 use Rattle.rs_attrs.specs.Meaning.{Attribute}
 use Rattle.rs_policy.specs.Configuration.{NamedList, Configuration, policy_of}
 use Rattle.rs_policy.specs.Verdicts.{AnnouncedRoute, announced_route, joined, matches, outcome, passing_by, passing_by_default, verdict}
+use Rattle.rs_policy.specs.Noted.{import_outcome, plainly}
 use Rattle.rs_policy.specs.declared.rules.Disposition.{Disposition}
+use Rattle.rs_policy.specs.declared.rules.Disposition.TheVariants as D
 use Rattle.rs_policy.specs.declared.rules.Rule.{Rule}
 
 nothing_matches : (default : Disposition) (lists : List NamedList) (rules : List Rule) (r : AnnouncedRoute) → rules ≡ [] → outcome default lists rules r ≡ passing_by_default default
@@ -17,3 +19,14 @@ unfolding verdict
 default_decides s from to p m no_import no_export =
     let r : AnnouncedRoute = announced_route s from to p m in
     λ i. joined (sym (nothing_matches s.top.default s.lists (policy_of s from).import r no_import) i) (sym (nothing_matches s.top.default s.lists (policy_of s to).export r no_export) i)
+
+by_default : (default : Disposition) → joined (passing_by_default default) (passing_by_default default) ≡ joined (Some plainly) (passing_by_default default)
+by_default D.Drop = refl
+by_default D.Pass = refl
+
+pub plainly_through : (s : Configuration) (from to : ℕ) (p : Prefix) (m : List Attribute) → Some plainly ≡ import_outcome s from to p m → (policy_of s to).export ≡ []
+    → joined (passing_by_default s.top.default) (passing_by_default s.top.default) ≡ verdict s from to p m
+unfolding verdict
+plainly_through s from to p m is no_export =
+    by_default s.top.default
+    ∙ λ i. joined (is i) (sym (nothing_matches s.top.default s.lists (policy_of s to).export (announced_route s from to p m) no_export) i)

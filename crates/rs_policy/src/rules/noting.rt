@@ -14,7 +14,9 @@ use crate::config::Config;
 use crate::config::shared_rules::SharedRules;
 use crate::rules::matching::Offer;
 use crate::rules::reasons::{Decider, first_decider};
-use crate::rules::verdict::{Passed, Verdict, export_to, offer_to, outcome, passed_by, plainly};
+use crate::rules::verdict::{
+    Passed, Verdict, export_to, judge_without_rules, offer_to, outcome, passed_by, plainly,
+};
 use crate::rules::{Action, Item};
 use rs_attrs::Attrs;
 use rs_octets::Prefix;
@@ -141,6 +143,10 @@ pub fn judge_noted<'a>(
     requires noted { note ≡ note_of_import config.now from prefix.now attrs.now }
     ensures { judged result ≡ verdict config.now from to prefix.now attrs.now }
 {
+    config.is_read();
+    if note == PLAINLY && config.export(to).is_empty() {
+        return judge_without_rules(config.default());
+    }
     match passed_noted(config, from, note) {
         None => Verdict::Drop,
         Some(import) => {

@@ -170,7 +170,7 @@ pub(super) fn passes(
 }
 
 /// What becomes of a route where neither list has a rule.
-fn judge_without_rules<'a>(default: Disposition) -> Verdict<'a>
+pub(super) fn judge_without_rules<'a>(default: Disposition) -> Verdict<'a>
     ensures { judged result ≡ joined (passing_by_default default) (passing_by_default default) }
 {
     match default {
