@@ -30,7 +30,7 @@ serve: ## run the live server for the two members of examples/small.toml, on loo
 	@[ -x out/rs_served ] || { echo "out/rs_served isn't there: make build makes it"; exit 1; }
 	@out/rs_served --config examples/small.toml --log
 
-test: ## the gate: every proof from nothing, must-fail edits, tests, recorded sessions
+test: ## the gate: every proof from nothing, wrong programs that must be refused, tests, recorded sessions
 	@python3 tools/gate.py
 
 interop: ## try BIRD, OpenBGPD, FRR, GoBGP and ExaBGP as members, Prometheus, curl and Chromium at the window, and write docs/INTEROP.md (MEMBER=bird: that one alone, no page)

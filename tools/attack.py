@@ -3,10 +3,10 @@
 
 attack.py [CRATE | CRATE/NAME ..]
 
-attacks/CRATE, with its folders, has edits like those of crates/CRATE/must-fail, NAME.edit: a text of the crate and what
+attacks/CRATE, with its folders, has edits, NAME.edit: a text of the crate and what
 stands in its place. Each crate is proved first as it is, since an edit of a crate that isn't proved shows nothing; then
-each of its edits must be refused. All is done in a copy of the repository outside it, in which the attacks
-stand in the must-fail folder of their crate, the one that `rt must-fail` reads. Crates are tried side by side,
+each of its edits must be refused, by whatever function. All is done in a copy of the repository outside it, in which the attacks
+stand in a folder must-fail of their crate, the one that `rt must-fail` reads. Crates are tried side by side,
 as many as there are processors (`taskset -c 0 tools/attack.py` takes one).
 
 It ends with the edits that were not refused and those that no longer apply, and 'N passed, M failed'; the
@@ -32,10 +32,8 @@ def edits_of(top, crate, names):
 
 
 def copy_repository(room, names):
-    """Copies the repository, with what earlier checks kept, and puts each crate's attacks in place of its edits."""
+    """Copies the repository, with what earlier checks kept, and puts each crate's attacks beside it."""
     shutil.copytree(TOP, room, ignore=shutil.ignore_patterns(".git", "__pycache__"))
-    for edits in room.glob("crates/*/must-fail"):
-        shutil.rmtree(edits)
     for attacks in (room / "attacks").iterdir():
         crate = room / "crates" / attacks.name
         if crate.is_dir():

@@ -4,7 +4,7 @@
 It reads each page (README.md, CONTRIBUTING.md and the others at the top, docs, the READMEs of crates, .github) and looks at
 what stands in backticks, and at links. By its shape a word there is
 - a file or a folder (`specs/Due.antt`, `must-fail/`): one of the repository has this path, or ends with it. In a crate's README
-  one in src, specs, proofs or must-fail is that crate's, or of a crate that the same line names;
+  one in src, specs or proofs is that crate's, or of a crate that the same line names;
 - a crate (`rs_core`);
 - a target of the Makefile (`make test`);
 - an option (`--reload`, `out/rs_served --reload`): a program of ours, a tool or a benchmark has it;
@@ -81,7 +81,7 @@ class Tree:
         path = re.sub(r"\b(?:NAME|CRATE|FILE)\b", "*", path)
         ends = re.compile(r"(?:.*/)?" + re.escape(path).replace(r"\*", "[^/]*"))
         found = [it for it in (self.folders if path.endswith("/") else self.files) if ends.fullmatch(it)]
-        if crate and re.match(r"(src|specs|proofs|must-fail)/", path):
+        if crate and re.match(r"(src|specs|proofs)/", path):
             named = {crate, *CRATE.findall(line)}
             found = [it for it in found if it.split("/")[1:2] and it.split("/")[1] in named]
         return bool(found)

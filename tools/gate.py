@@ -3,7 +3,7 @@
 
 Runs `rt ci` at the top of the repository and passes on what it prints. Meanwhile it looks, every two
 seconds, at the processes of the prover and of the compilers; from that it prints how long each crate's
-proofs, tests and edits took. Then it plays each session of examples/sessions to the built rs_replay, and two members to the
+proofs and tests took. Then it tries the wrong programs of must-fail, which the prover must refuse, over what was proved. Then it plays each session of examples/sessions to the built rs_replay, and two members to the
 built rs_served, records one and plays the record, and gives both programs configurations. It holds what the members of these sessions are sent against the
 plain function (`plain`): of their fronts, with losses, cut and changed octets, refused memory and without threads, and of random
 sessions. It plays hostile members to the built rs_served, those whose play takes seconds. It runs tests
@@ -28,6 +28,7 @@ from check_examples import check
 from check_names import check_pages
 from fuzz import CASES, fuzz
 from hostile.plays import play_short
+from must_fail import play_edits
 from plays.checks import play_checks
 from plays.commands import play_commands
 from plays.control import play_control
@@ -52,7 +53,7 @@ TOP = pathlib.Path(__file__).resolve().parent.parent
 HOSTILE = "abcdegn"
 PAUSE = 2
 TICK = os.sysconf("SC_CLK_TCK")
-KINDS = ("proofs", "tests", "edits")
+KINDS = ("proofs", "tests")
 
 Process = collections.namedtuple("Process", "parent started seconds")
 
@@ -75,15 +76,11 @@ def task_of(pid):
     """The crate that a process of the prover or of a compiler works on, and for what; or None."""
     try:
         words = pathlib.Path(f"/proc/{pid}/cmdline").read_bytes().decode(errors="replace").split("\0")
-        folder = os.path.basename(os.readlink(f"/proc/{pid}/cwd"))
     except OSError:
         return None
     if "--crate-name" not in words[:-1]:
         return None
-    crate = words[words.index("--crate-name") + 1]
-    if folder.startswith("rt-edit-"):
-        return crate, "edits"
-    return crate, "tests" if "--test" in words else "proofs"
+    return words[words.index("--crate-name") + 1], "tests" if "--test" in words else "proofs"
 
 
 def look(gate, tasks, seconds):
@@ -139,14 +136,14 @@ def run_gate():
 
 
 def tell_times(took, started):
-    """How long each crate's proofs, tests and edits took, the longest crate first, and the whole."""
+    """How long each crate's proofs and tests took, the longest crate first, and the whole."""
     whole = lambda crate: sum(took[crate, kind] for kind in KINDS)
-    print("\nProcessor seconds of each crate's proofs (with what is compiled), tests and edits:")
+    print("\nProcessor seconds of each crate's proofs (with what is compiled) and tests:")
     print(f"  {'':<12}" + "".join(f"{it:>8}" for it in (*KINDS, "whole")))
     for crate in sorted({crate for crate, _ in took}, key=whole, reverse=True):
         figures = [*(took[crate, kind] for kind in KINDS), whole(crate)]
         print(f"  {crate:<12}" + "".join(f"{it:8.0f}" for it in figures))
-    tell_time("The whole", started, 0)
+    tell_time("What was proved", started, 0)
 
 
 def processor_minutes():
@@ -196,10 +193,16 @@ def main():
     started = time.monotonic()
     passed, failed, took = run_gate()
     tell_times(took, started)
-    began, used = time.monotonic(), processor_minutes()
-    held, differ = tell(play_all(TOP / "crates", TOP / "examples/sessions"))
-    tell_time("What was played", began, used)
-    passed, failed = passed + held, failed + differ
+    beside = (
+        ("The wrong programs", play_edits(count=lanes())),
+        ("What was played", play_all(TOP / "crates", TOP / "examples/sessions")),
+    )
+    for what, results in beside:
+        began, used = time.monotonic(), processor_minutes()
+        held, differ = tell(results)
+        tell_time(what, began, used)
+        passed, failed = passed + held, failed + differ
+    tell_time("The whole", started, 0)
     print(f"{passed} passed, {failed} failed")
     return 1 if failed else 0
 
