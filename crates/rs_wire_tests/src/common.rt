@@ -1,8 +1,9 @@
-//! What the tests of several crates need: a comparison, octets from hexadecimal digits, prefixes, and the
-//! attributes of a route.
+//! What the tests of several crates need: a comparison, octets from hexadecimal digits, prefixes, the
+//! attributes of a route, and the messages that announce and withdraw prefixes.
 
 use rs_attrs::{Attrs, Mode, read};
 use rs_octets::Prefix;
+use rs_packer::{Packed, pack_withdrawn, try_pack_announced};
 use std::alloc::{AllocError, Global};
 use std::fmt::Debug;
 use std::process::Abort;
@@ -17,11 +18,6 @@ pub(crate) fn is<T: Debug + PartialEq + Drop>(rt: &impl Abort, found: T, want: T
     assert_eq!(rt; found, want, "{of}");
 }
 
-/// What the text says holds.
-pub(crate) fn holds(rt: &impl Abort, is_so: bool, what: &str) {
-    assert!(rt; is_so, "{what}");
-}
-
 /// What is shown is this text.
 pub(crate) fn is_shown(rt: &impl Abort, shown: Result<String, AllocError>, want: &str) {
     is(rt, shown.expect(rt, "a text").as_str(), want, "a text");
@@ -32,21 +28,19 @@ pub(crate) fn put(rt: &impl Abort, octets: &mut Vec<u8>, more: &[u8]) {
     octets.extend_from_slice(more).expect(rt, "octets");
 }
 
-/// Puts the octets behind others that a word of hexadecimal digits spells, or `A` for `ROUTE`.
-fn put_word(rt: &impl Abort, alloc: Global, octets: &mut Vec<u8>, word: &str) {
-    if word == "A" {
-        put(rt, octets, &ROUTE);
-    } else {
-        let spelt = hex::decode(alloc, word).expect(rt, "hexadecimal digits");
-        put(rt, octets, &spelt);
-    }
-}
-
-/// The octets that a text of hexadecimal digits and blanks spells, in which `A` stands for `ROUTE`.
+/// The octets that a text of hexadecimal digits and blanks spells, in which `A` stands for `ROUTE` and
+/// `M` for the marker of a message.
 pub(crate) fn octets(rt: &impl Abort, alloc: Global, text: &str) -> Vec<u8> {
     let mut octets = Vec::new(alloc);
     for word in text.split_whitespace() {
-        put_word(rt, alloc, &mut octets, word);
+        match word {
+            "A" => put(rt, &mut octets, &ROUTE),
+            "M" => put(rt, &mut octets, &[0xff; 16]),
+            _ => {
+                let spelt = hex::decode(alloc, word).expect(rt, "hexadecimal digits");
+                put(rt, &mut octets, &spelt);
+            }
+        }
     }
     octets
 }
@@ -59,4 +53,25 @@ pub(crate) fn prefix(rt: &impl Abort, bits: u32, len: u8) -> Prefix {
 /// The attributes that a four-octet peer spells so.
 pub(crate) fn attrs(rt: &impl Abort, alloc: Global, field: &[u8]) -> Attrs {
     read(alloc, field, Mode::Four).expect(rt, "memory").attrs
+}
+
+/// What is announced of the prefixes, where there are some and the first fits.
+pub(crate) fn announced(
+    mode: Mode,
+    attrs: &Attrs,
+    prefixes: &[Prefix],
+    out: &mut [u8],
+) -> Option<Packed> {
+    if out.len() > 65535 {
+        return None;
+    }
+    try_pack_announced(attrs, mode, prefixes, out)
+}
+
+/// What is withdrawn of the prefixes, where there are some.
+pub(crate) fn withdrawn(prefixes: &[Prefix], out: &mut [u8]) -> Option<Packed> {
+    if prefixes.is_empty() || out.len() > 65535 || out.len() < 28 {
+        return None;
+    }
+    Some(pack_withdrawn(prefixes, out))
 }

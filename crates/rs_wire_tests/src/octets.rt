@@ -1,15 +1,11 @@
 //! Octets of BGP messages, taken apart by hand.
 
-mod naming;
-
-use crate::common::{holds, is, is_shown, prefix};
+use crate::common::{is, is_shown, prefix};
 use rs_octets::{
-    AS_TRANS, Allowed, FieldFault, Front, Head, HeaderFault, Kind, Prefix, header, laws, put,
-    put_header, put_prefix, read_front, read_prefixes,
+    AS_TRANS, Allowed, FieldFault, Front, Head, HeaderFault, Kind, Notification, Prefix, header,
+    laws, put, put_header, put_prefix, read_front, read_prefixes,
 };
-use std::alloc::Global;
 use std::cmp::Ordering;
-use std::process::Abort;
 
 const PLAIN: Allowed = Allowed {
     long: false,
@@ -21,64 +17,77 @@ const ALL: Allowed = Allowed {
     refresh: true,
 };
 
-/// A header behind a good marker.
-fn headed(high: u8, low: u8, number: u8) -> [u8; 19] {
-    let mut octets = [255; 19];
-    octets[16] = high;
-    octets[17] = low;
-    octets[18] = number;
-    octets
-}
-
-/// The octets are a header of this length and type.
-fn is_head(rt: &impl Abort, octets: &[u8; 19], allowed: Allowed, length: u16, kind: Kind) {
-    let want = Head { length, kind };
-    is(rt, header(octets, allowed), Ok(want), "a header");
-}
-
-/// What stands behind the marker of good headers, each with its length and type.
-static HEADS: [([u8; 3], Allowed, u16, Kind); 6] = [
-    ([0, 37, 1], PLAIN, 37, Kind::Open),
-    ([0, 47, 2], PLAIN, 47, Kind::Update),
-    ([0, 21, 3], PLAIN, 21, Kind::Note),
-    ([0, 19, 4], PLAIN, 19, Kind::Keepalive),
-    ([0, 23, 5], ALL, 23, Kind::Refresh),
-    ([255, 255, 2], ALL, 65535, Kind::Update),
+/// What stands behind the marker of headers, and what is read of them.
+static HEADERS: [([u8; 3], Allowed, Result<Head, HeaderFault>); 13] = [
+    (
+        [0, 37, 1],
+        PLAIN,
+        Ok(Head {
+            length: 37,
+            kind: Kind::Open,
+        }),
+    ),
+    (
+        [0, 47, 2],
+        PLAIN,
+        Ok(Head {
+            length: 47,
+            kind: Kind::Update,
+        }),
+    ),
+    (
+        [0, 21, 3],
+        PLAIN,
+        Ok(Head {
+            length: 21,
+            kind: Kind::Note,
+        }),
+    ),
+    (
+        [0, 19, 4],
+        PLAIN,
+        Ok(Head {
+            length: 19,
+            kind: Kind::Keepalive,
+        }),
+    ),
+    (
+        [0, 23, 5],
+        ALL,
+        Ok(Head {
+            length: 23,
+            kind: Kind::Refresh,
+        }),
+    ),
+    (
+        [255, 255, 2],
+        ALL,
+        Ok(Head {
+            length: 65535,
+            kind: Kind::Update,
+        }),
+    ),
+    ([16, 1, 2], PLAIN, Err(HeaderFault::Length(4097))),
+    ([0, 20, 4], PLAIN, Err(HeaderFault::Length(20))),
+    ([0, 19, 5], PLAIN, Err(HeaderFault::Kind(5))),
+    ([16, 1, 4], ALL, Err(HeaderFault::Length(4097))),
+    ([16, 1, 1], ALL, Err(HeaderFault::Length(4097))),
+    ([0, 24, 5], ALL, Err(HeaderFault::Length(24))),
+    ([16, 1, 9], PLAIN, Err(HeaderFault::Length(4097))),
 ];
 
 #[test]
 fn reads_headers(rt: HostRuntime) {
-    for ([high, low, number], allowed, length, kind) in &HEADS {
-        let octets = headed(*high, *low, *number);
-        is_head(&rt, &octets, *allowed, *length, *kind);
+    let mut octets = [255; 19];
+    for ([high, low, number], allowed, want) in &HEADERS {
+        octets[16] = *high;
+        octets[17] = *low;
+        octets[18] = *number;
+        is(&rt, header(&octets, *allowed), *want, "a header");
     }
-}
-
-/// The octets are refused for this fault.
-fn is_refused(rt: &impl Abort, octets: &[u8; 19], allowed: Allowed, fault: HeaderFault) {
-    is(rt, header(octets, allowed), Err(fault), "a header");
-}
-
-/// What stands behind the marker of headers that are refused, each with its fault.
-static REFUSED: [([u8; 3], Allowed, HeaderFault); 7] = [
-    ([16, 1, 2], PLAIN, HeaderFault::Length(4097)),
-    ([0, 20, 4], PLAIN, HeaderFault::Length(20)),
-    ([0, 19, 5], PLAIN, HeaderFault::Kind(5)),
-    ([16, 1, 4], ALL, HeaderFault::Length(4097)),
-    ([16, 1, 1], ALL, HeaderFault::Length(4097)),
-    ([0, 24, 5], ALL, HeaderFault::Length(24)),
-    ([16, 1, 9], PLAIN, HeaderFault::Length(4097)),
-];
-
-#[test]
-fn refuses_headers(rt: HostRuntime) {
-    for ([high, low, number], allowed, fault) in &REFUSED {
-        let octets = headed(*high, *low, *number);
-        is_refused(&rt, &octets, *allowed, *fault);
-    }
-    let mut octets = headed(0, 19, 4);
     octets[15] = 0;
-    is_refused(&rt, &octets, PLAIN, HeaderFault::Marker);
+    let marker = Err(HeaderFault::Marker);
+    is(&rt, header(&octets, PLAIN), marker, "a header");
 }
 
 /// Types, each with its number and the least and the greatest length.
@@ -90,26 +99,23 @@ static TYPES: [(Kind, u8, u16, u16); 5] = [
     (Kind::Refresh, 5, 23, 23),
 ];
 
-/// A type has this number and these lengths.
-fn is_type(rt: &impl Abort, kind: Kind, number: u8, least: u16, greatest: u16) {
-    is(rt, kind.number(), number, "the number");
-    is(rt, kind.least_length(), least, "the least length");
-    is(rt, kind.greatest_length(ALL), greatest, "the greatest");
-}
-
-/// The header of a type's shortest message is written and read again.
-fn is_written(rt: &impl Abort, kind: Kind, least: u16) {
-    let mut out = [7; 19];
-    let size = put_header(&mut out, least, kind);
-    is(rt, size, 19, "the octets of a header");
-    is_head(rt, &out, ALL, least, kind);
-}
-
 #[test]
 fn writes_headers(rt: HostRuntime) {
     for (kind, number, least, greatest) in TYPES {
-        is_type(&rt, kind, number, least, greatest);
-        is_written(&rt, kind, least);
+        let found = (
+            kind.number(),
+            kind.least_length(),
+            kind.greatest_length(ALL),
+        );
+        is(&rt, found, (number, least, greatest), "a type");
+        let mut out = [7; 19];
+        let size = put_header(&mut out, least, kind);
+        is(&rt, size, 19, "the octets of a header");
+        let want = Head {
+            length: least,
+            kind,
+        };
+        is(&rt, header(&out, ALL), Ok(want), "a header");
     }
     let greatest = Kind::Update.greatest_length(PLAIN);
     is(&rt, greatest, 4096, "the greatest length");
@@ -121,154 +127,164 @@ const THREE: &[u8] = b"\xff\xff\xff\xff\xff\xff\xff\xff\xff\xff\xff\xff\xff\xff\
 \xff\xff\xff\xff\xff\xff\xff\xff\xff\xff\xff\xff\xff\xff\xff\xff\x00\x1b\x02\x00\x04\x18\xc6\x33\x64\x00\x00\
 \xff\xff\xff\xff\xff\xff\xff\xff\xff\xff\xff\xff\xff\xff\xff\xff\x00\x13";
 
-/// The message in front, and the octets behind it.
-fn message_in(octets: &[u8]) -> Option<(Kind, &[u8], &[u8])> {
-    match read_front(octets, PLAIN) {
-        Front::Message { kind, body, rest } => Some((kind, body, rest)),
-        Front::Fault(_) | Front::Wants(_) => None,
-    }
-}
+/// The messages in front of octets, each with its type and body.
+static MESSAGES: [(Kind, &[u8]); 2] = [
+    (Kind::Keepalive, b""),
+    (Kind::Update, b"\x00\x04\x18\xc6\x33\x64\x00\x00"),
+];
 
-/// The fault of a header that is refused.
-fn fault_of(front: Front<'_>) -> Option<HeaderFault> {
-    match front {
-        Front::Fault(fault) => Some(fault),
-        Front::Message { .. } | Front::Wants(_) => None,
-    }
-}
-
-/// How many octets are wanted, where some are.
-fn wanted(front: Front<'_>) -> Option<usize> {
-    match front {
+/// How many octets more are wanted, where the octets are the front of a message.
+fn wanted(octets: &[u8], allowed: Allowed) -> Option<usize> {
+    match read_front(octets, allowed) {
         Front::Wants(more) => Some(more),
         Front::Message { .. } | Front::Fault(_) => None,
     }
 }
 
-/// So many octets more are wanted.
-fn wants(rt: &impl Abort, octets: &[u8], more: usize) {
-    let found = wanted(read_front(octets, PLAIN));
-    is(rt, found, Some(more), "octets wanted");
-}
-
-/// A message of this type and body is in front; answers the octets behind it.
-fn behind<'a>(rt: &impl Abort, octets: &'a [u8], kind: Kind, body: &[u8]) -> &'a [u8] {
-    let (found, read, rest) = message_in(octets).expect(rt, "a message");
-    is(rt, found, kind, "the type");
-    is(rt, read, body, "the body");
-    rest
-}
-
 #[test]
 fn reads_messages_from_the_front(rt: HostRuntime) {
-    is(&rt, THREE.len(), 64, "octets");
-    let rest = behind(&rt, THREE, Kind::Keepalive, b"");
-    is(&rt, rest.len(), 45, "octets behind the first");
-    let withdrawal = b"\x00\x04\x18\xc6\x33\x64\x00\x00";
-    let rest = behind(&rt, rest, Kind::Update, withdrawal);
-    is(&rt, rest.len(), 18, "octets behind the second");
-    wants(&rt, rest, 1);
+    let mut octets = THREE;
+    for want in &MESSAGES {
+        let Front::Message { kind, body, rest } = read_front(octets, PLAIN) else {
+            return assert!(rt; false, "a message");
+        };
+        is(&rt, (kind, body), *want, "a message");
+        octets = rest;
+    }
+    is(&rt, wanted(octets, PLAIN), Some(1), "of the third");
 }
 
 #[test]
 fn wants_the_header_and_then_the_message(rt: HostRuntime) {
-    wants(&rt, &[], 19);
     let update = &THREE[19..46];
     for come in 0..27 {
         let more = if come < 19 { 19 - come } else { 27 - come };
-        wants(&rt, &update[..come], more);
+        is(&rt, wanted(&update[..come], PLAIN), Some(more), "octets");
     }
-    holds(&rt, message_in(update).is_some(), "a message is read");
-}
-
-#[test]
-fn finds_the_fault_of_a_header(rt: HostRuntime) {
-    let header = headed(0, 23, 5);
-    let fault = fault_of(read_front(&header, PLAIN));
-    is(&rt, fault, Some(HeaderFault::Kind(5)), "the type is none");
-    let more = wanted(read_front(&header, ALL));
-    is(&rt, more, Some(4), "octets wanted");
-}
-
-/// A fault of a header is shown by this text.
-fn header_fault_is_shown(rt: &impl Abort, alloc: Global, fault: HeaderFault, want: &str) {
-    is_shown(rt, format!(in alloc; "{fault}"), want);
-}
-
-/// A fault of a field is shown by this text.
-fn field_fault_is_shown(rt: &impl Abort, alloc: Global, fault: FieldFault, want: &str) {
-    is_shown(rt, format!(in alloc; "{fault}"), want);
+    // a ROUTE-REFRESH, towards a peer that may send it and one that may not
+    let mut refresh = [255; 19];
+    let _ = put_header(&mut refresh, 23, Kind::Refresh);
+    is(&rt, wanted(&refresh, ALL), Some(4), "octets");
+    let Front::Fault(fault) = read_front(&refresh, PLAIN) else {
+        return assert!(rt; false, "a fault");
+    };
+    is(&rt, fault, HeaderFault::Kind(5), "the type is none");
 }
 
 #[test]
 fn faults_have_texts(rt: HostRuntime) {
-    let alloc = rt.alloc();
-    let marker = "the marker is not sixteen octets ff";
-    header_fault_is_shown(&rt, alloc, HeaderFault::Marker, marker);
-    let length = "bad message length 4097";
-    header_fault_is_shown(&rt, alloc, HeaderFault::Length(4097), length);
-    header_fault_is_shown(&rt, alloc, HeaderFault::Kind(5), "bad message type 5");
-    let too_long = "a prefix is longer than 32 bits";
-    field_fault_is_shown(&rt, alloc, FieldFault::TooLong, too_long);
-    let cut = "a prefix runs over the end of its field";
-    field_fault_is_shown(&rt, alloc, FieldFault::Cut, cut);
-}
-
-/// A prefix has these bits, and spelt it takes so many octets.
-fn is_prefix(rt: &impl Abort, made: Option<Prefix>, bits: u32, len: u8, size: usize) {
-    let prefix = made.expect(rt, "a prefix of a length of at most 32");
-    is(rt, prefix.bits(), bits, "bits");
-    is(rt, prefix.len(), len, "length");
-    is(rt, prefix.size(), size, "octets");
-}
-
-#[test]
-fn makes_prefixes(rt: HostRuntime) {
-    // 198.51.100.255/25 is 198.51.100.128/25
-    let cases = [
-        (0xffff_ffff, 0, 0, 1),
-        (0xc633_64ff, 25, 0xc633_6480, 5),
-        (0xc633_64ff, 24, 0xc633_6400, 4),
-        (0x0a01_0203, 8, 0x0a00_0000, 2),
-        (0xc000_0201, 32, 0xc000_0201, 5),
+    let of_headers = [
+        (HeaderFault::Marker, "the marker is not sixteen octets ff"),
+        (HeaderFault::Length(4097), "bad message length 4097"),
+        (HeaderFault::Kind(5), "bad message type 5"),
     ];
-    for (given, len, bits, size) in cases {
-        is_prefix(&rt, Prefix::new(given, len), bits, len, size);
+    for (fault, text) in of_headers {
+        is_shown(&rt, format!(in rt.alloc(); "{fault}"), text);
     }
-    is(&rt, Prefix::new(0, 33), None, "a length of 33");
-    is(&rt, Prefix::new(0, 255), None, "a length of 255");
+    let of_fields = [
+        (FieldFault::TooLong, "a prefix is longer than 32 bits"),
+        (FieldFault::Cut, "a prefix runs over the end of its field"),
+    ];
+    for (fault, text) in of_fields {
+        is_shown(&rt, format!(in rt.alloc(); "{fault}"), text);
+    }
 }
 
-/// The first of two is less than the second.
-fn rises(rt: &impl Abort, first: Prefix, second: Prefix) {
-    holds(rt, first < second, "the first is less");
-    let order = laws::order_of(&first, &second);
-    is(rt, order, Ordering::Less, "the order");
-}
-
-/// Bits and lengths of prefixes, of which each first is less than its second.
-static RISING: [[(u32, u8); 2]; 5] = [
-    [(0, 0), (0, 8)],
-    [(0, 8), (0x0a00_0000, 8)],
-    [(0x0a00_0000, 8), (0x0a00_0000, 24)],
-    [(0x0a00_0000, 24), (0x0a00_0100, 24)],
-    [(0x0a00_0100, 24), (0xc000_0000, 2)],
+/// Names, each with its error code and subcode and its text.
+static NAMES: [(Notification, u8, u8, &str); 7] = [
+    (
+        Notification::ConnectionNotSynchronized,
+        1,
+        1,
+        "Message Header Error, Connection Not Synchronized (1, 1)",
+    ),
+    (
+        Notification::OpenMessageError,
+        2,
+        0,
+        "OPEN Message Error (2, 0)",
+    ),
+    (
+        Notification::BadPeerAs,
+        2,
+        2,
+        "OPEN Message Error, Bad Peer AS (2, 2)",
+    ),
+    (
+        Notification::InvalidNetworkField,
+        3,
+        10,
+        "UPDATE Message Error, Invalid Network Field (3, 10)",
+    ),
+    (
+        Notification::HoldTimerExpired,
+        4,
+        0,
+        "Hold Timer Expired (4, 0)",
+    ),
+    (
+        Notification::FiniteStateMachineError,
+        5,
+        0,
+        "Finite State Machine Error (5, 0)",
+    ),
+    (
+        Notification::MaximumPrefixesReached,
+        6,
+        1,
+        "Cease, Maximum Number of Prefixes Reached (6, 1)",
+    ),
 ];
 
 #[test]
-fn orders_prefixes(rt: HostRuntime) {
-    for [(first, short), (second, long)] in &RISING {
-        let first = prefix(&rt, *first, *short);
-        rises(&rt, first, prefix(&rt, *second, *long));
+fn names_notifications(rt: HostRuntime) {
+    for (name, code, sub, text) in &NAMES {
+        is(&rt, (name.code(), name.sub()), (*code, *sub), text);
+        is(&rt, Notification::named(*code, *sub), Some(*name), text);
+        is_shown(&rt, format!(in rt.alloc(); "{name}"), text);
     }
+    is(&rt, Notification::named(2, 5), None, "(2, 5)");
+    is(&rt, Notification::named(9, 0), None, "(9, 0)");
 }
 
-/// What a field has next.
-type Item = Option<Result<Prefix, FieldFault>>;
+/// Bits and lengths that are given, and the bits of the prefix and the octets that spell it.
+static PREFIXES: [(u32, u8, u32, usize); 5] = [
+    (0xffff_ffff, 0, 0, 1),
+    // 198.51.100.255/25 is 198.51.100.128/25
+    (0xc633_64ff, 25, 0xc633_6480, 5),
+    (0xc633_64ff, 24, 0xc633_6400, 4),
+    (0x0a01_0203, 8, 0x0a00_0000, 2),
+    (0xc000_0201, 32, 0xc000_0201, 5),
+];
 
-/// This prefix is next.
-fn good(bits: u32, len: u8) -> Item {
-    Some(Prefix::new(bits, len).ok_or(FieldFault::Cut))
+/// Bits and lengths of prefixes in rising order.
+static RISING: [(u32, u8); 6] = [
+    (0, 0),
+    (0, 8),
+    (0x0a00_0000, 8),
+    (0x0a00_0000, 24),
+    (0x0a00_0100, 24),
+    (0xc000_0000, 2),
+];
+
+#[test]
+fn makes_and_orders_prefixes(rt: HostRuntime) {
+    for (given, len, bits, size) in &PREFIXES {
+        let made = prefix(&rt, *given, *len);
+        let found = (made.bits(), made.len(), made.size());
+        is(&rt, found, (*bits, *len, *size), "a prefix");
+    }
+    is(&rt, Prefix::new(0, 33), None, "a length of 33");
+    is(&rt, Prefix::new(0, 255), None, "a length of 255");
+    let mut before = None;
+    for (bits, len) in &RISING {
+        let next = prefix(&rt, *bits, *len);
+        if let Some(before) = before {
+            let order = laws::order_of(&before, &next);
+            is(&rt, (order, before < next), (Ordering::Less, true), "less");
+        }
+        before = Some(next);
+    }
 }
 
 #[test]
@@ -276,24 +292,18 @@ fn reads_fields(rt: HostRuntime) {
     // 198.51.100.0/24, 198.51.100.128/25 with a bit behind its length, 0.0.0.0/0, and a length of 33
     let field = b"\x18\xc6\x33\x64\x19\xc6\x33\x64\xff\x00\x21\xc6\x18\xc6\x33\x64";
     let mut items = read_prefixes(field);
-    is(&rt, items.next(), good(0xc633_6400, 24), "the first");
-    is(&rt, items.next(), good(0xc633_6480, 25), "the second");
-    is(&rt, items.next(), good(0, 0), "the third");
-    is(&rt, items.next(), Some(Err(FieldFault::TooLong)), "a fault");
-    is(&rt, items.next(), None, "nothing behind a fault");
-    is(&rt, items.next(), None, "nothing again");
-}
-
-#[test]
-fn reads_short_fields(rt: HostRuntime) {
+    for (bits, len) in [(0xc633_6400, 24), (0xc633_6480, 25), (0, 0)] {
+        let want = Some(Ok(prefix(&rt, bits, len)));
+        is(&rt, items.next(), want, "a prefix");
+    }
+    let too_long = Some(Err(FieldFault::TooLong));
+    for want in [too_long, None, None] {
+        is(&rt, items.next(), want, "a fault, and nothing behind it");
+    }
     let mut items = read_prefixes(b"\x18\xc6");
-    is(
-        &rt,
-        items.next(),
-        Some(Err(FieldFault::Cut)),
-        "a cut prefix",
-    );
-    is(&rt, items.next(), None, "nothing behind it");
+    for want in [Some(Err(FieldFault::Cut)), None] {
+        is(&rt, items.next(), want, "a cut prefix");
+    }
     is(&rt, read_prefixes(b"").next(), None, "nothing in no field");
 }
 

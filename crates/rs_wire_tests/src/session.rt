@@ -1,15 +1,17 @@
-//! Sessions by hand: what comes in and what is to be done, with values from the
-//! RFCs and from recorded sessions.
+//! Sessions by hand: what comes in and what is to be done, with values from the RFCs and from recorded
+//! sessions.
 
-mod opens;
-mod states;
-mod timers;
+mod bodies;
+mod rows;
 
 use crate::common::is;
+use bodies::*;
+use rows::{IN_EACH_STATE, SCRIPTS, STEPS};
 use rs_attrs::Mode;
 use rs_octets::HeaderFault;
 use rs_open::{Limit, Short, ShutdownText, read_open};
 use rs_session::{Act, Busy, Command, Heard, Session, Settings, State};
+use std::alloc::{AllocError, Global};
 use std::process::Abort;
 
 /// A client of AS 64496, and a Hold Time of 90.
@@ -19,96 +21,141 @@ const SETTINGS: Settings = Settings {
     extended: false,
 };
 
-/// The body of an OPEN of AS 64496 with Hold Time 90 and the capability for four-octet AS numbers.
-const OPEN: &[u8] = b"\x04\xfb\xf0\x00\x5a\xc0\x00\x02\x0b\x08\x02\x06\x41\x04\x00\x00\xfb\xf0";
+/// A client of AS 4200000000.
+const LARGE: Settings = Settings {
+    peer_as: 4_200_000_000,
+    ..SETTINGS
+};
 
-/// An OPEN of version 3.
-const OPEN_VERSION_3: &[u8] = b"\x03\xfb\xf0\x00\x5a\xc0\x00\x02\x0b\x00";
+/// A client to which long messages may be sent.
+const LONG: Settings = Settings {
+    extended: true,
+    ..SETTINGS
+};
 
 /// What befalls a session.
 #[derive(Clone, Copy)]
 enum Call {
+    /// A connection comes.
+    Opened,
     /// The body of an OPEN.
     Open(&'static [u8]),
     Hear(Heard),
     At(u64),
     Command(Command),
+    /// The connection is lost.
+    Lost,
 }
 
-/// The answer to a call, of which an OPEN has at least 10 octets.
-fn answer(rt: &impl Abort, session: &mut Session, call: Call) -> Act {
+/// The answer to a call, of which an OPEN has at least 10 octets. A loss has none.
+fn answer(rt: &impl Abort, session: &mut Session, call: Call) -> Result<Act, Busy> {
     match call {
+        Call::Opened => return session.opened(),
+        Call::Lost => session.lost(),
         Call::Open(body) => {
             assert!(rt; body.len() >= 10);
-            session.message(Heard::Open(read_open(body)))
+            return Ok(session.message(Heard::Open(read_open(body))));
         }
-        Call::Hear(heard) => session.message(heard),
-        Call::At(t) => session.moment(t),
-        Call::Command(command) => session.command(command),
+        Call::Hear(heard) => return Ok(session.message(heard)),
+        Call::At(t) => return Ok(session.moment(t)),
+        Call::Command(command) => return Ok(session.command(command)),
+    }
+    Ok(Act::None)
+}
+
+/// Puts an answer behind others: a word, and of a NOTIFICATION its code, its subcode and its data.
+fn put_words(
+    alloc: Global,
+    words: &mut String,
+    answer: Result<Act, Busy>,
+) -> Result<(), AllocError> {
+    let word = match answer {
+        Ok(Act::None) => " -",
+        Ok(Act::Say(Short::Open)) => " OPEN",
+        Ok(Act::Say(Short::Keepalive)) => " KEEPALIVE",
+        Ok(Act::Up) => " up",
+        Ok(Act::Again) => " again",
+        Ok(Act::Down(None)) => " down",
+        Ok(
+            Act::Down(
+                Some(
+                    Short::Note {
+                        code,
+                        sub,
+                        extra,
+                        count,
+                    },
+                ),
+            ),
+        ) => {
+            let octets = [code, sub, extra[0], extra[1]];
+            let note = octets.get(..2 + usize::from(count)).unwrap_or(&[]);
+            words.push_str(" down:")?;
+            return words.push_str(&hex::encode(alloc, note)?);
+        }
+        Ok(Act::Say(_) | Act::Down(_)) => " what no session says",
+        Err(Busy) => " busy",
+    };
+    words.push_str(word)
+}
+
+#[test]
+fn calls_in_each_state(rt: HostRuntime) {
+    for (call, answers) in &IN_EACH_STATE {
+        let mut found = String::new(rt.alloc());
+        for steps in 0..=STEPS.len() {
+            let mut session = Session::new(SETTINGS);
+            for (step, state) in STEPS.iter().take(steps) {
+                let _ = answer(&rt, &mut session, *step);
+                is(&rt, session.state(), *state, answers);
+            }
+            let answered = answer(&rt, &mut session, *call);
+            put_words(rt.alloc(), &mut found, answered).expect(&rt, "a text");
+        }
+        is(&rt, found.as_str(), *answers, "the answers");
     }
 }
 
-/// The call at this place is answered by this.
-fn answers(rt: &impl Abort, name: &str, place: usize, found: Act, want: Act) {
-    assert_eq!(rt; found, want, "{name}, call {place}");
-}
-
-/// Some calls are answered so.
-fn play(rt: &impl Abort, name: &str, session: &mut Session, script: &[(Call, Act)]) {
-    for (place, (call, want)) in script.iter().enumerate() {
-        let found = answer(rt, session, *call);
-        answers(rt, name, place, found, *want);
+#[test]
+fn sessions_by_their_calls(rt: HostRuntime) {
+    for (name, settings, calls, answers, state) in &SCRIPTS {
+        let mut session = Session::new(*settings);
+        is(&rt, session.settings(), *settings, name);
+        let mut found = String::new(rt.alloc());
+        for call in *calls {
+            let answered = answer(&rt, &mut session, *call);
+            put_words(rt.alloc(), &mut found, answered).expect(&rt, "a text");
+        }
+        is(&rt, found.as_str(), *answers, name);
+        is(&rt, session.state(), *state, name);
     }
 }
 
-/// A connection comes, and is answered by an OPEN.
-fn connects(rt: &impl Abort, session: &mut Session) {
-    let opened = session.opened();
-    is(rt, opened, Ok(Act::Say(Short::Open)), "a connection");
-}
-
-/// A session with a connection.
-fn connected(rt: &impl Abort, settings: Settings) -> Session {
-    let mut session = Session::new(settings);
-    connects(rt, &mut session);
-    session
-}
-
-fn down(code: u8, sub: u8) -> Act {
-    Act::Down(Some(Short::note(code, sub)))
-}
-
-const KEEPALIVE: (Call, Act) = (Call::Hear(Heard::Keepalive), Act::None);
-
-const SAY_KEEPALIVE: Act = Act::Say(Short::Keepalive);
-
-static COMES_UP: [(Call, Act); 2] = [
-    (Call::Open(OPEN), SAY_KEEPALIVE),
-    (Call::Hear(Heard::Keepalive), Act::Up),
+/// OPENs that are taken, each with what holds from then on.
+static TAKEN: [(&str, Settings, &[u8], Mode, Limit); 6] = [
+    ("two octets", SETTINGS, OF_TWO, Mode::Two, Limit::Short),
+    ("four octets", SETTINGS, OPEN, Mode::Four, Limit::Short),
+    ("a large AS", LARGE, OF_LARGE, Mode::Four, Limit::Short),
+    ("long messages", LONG, OF_LONG, Mode::Four, Limit::Long),
+    (
+        "long to a client that is not set so",
+        SETTINGS,
+        OF_LONG,
+        Mode::Four,
+        Limit::Short,
+    ),
+    ("not taken", LONG, OPEN, Mode::Four, Limit::Short),
 ];
 
-/// A session of the settings above that is Established at moment 0.
-fn established(rt: &impl Abort) -> Session {
-    let mut session = connected(rt, SETTINGS);
-    play(rt, "comes up", &mut session, &COMES_UP);
-    session
-}
-
-/// What is done in OpenSent.
-fn play_in_open_sent(rt: &impl Abort, name: &str, script: &[(Call, Act)]) {
-    play(rt, name, &mut connected(rt, SETTINGS), script);
-}
-
-static CONFIRMS: [(Call, Act); 1] = [(Call::Open(OPEN), SAY_KEEPALIVE)];
-
-/// What is done in OpenConfirm.
-fn play_in_open_confirm(rt: &impl Abort, name: &str, script: &[(Call, Act)]) {
-    let mut session = connected(rt, SETTINGS);
-    play(rt, "an OPEN comes", &mut session, &CONFIRMS);
-    play(rt, name, &mut session, script);
-}
-
-/// What is done in Established, from moment 0 on.
-fn play_in_established(rt: &impl Abort, name: &str, script: &[(Call, Act)]) {
-    play(rt, name, &mut established(rt), script);
+#[test]
+fn what_holds_once_an_open_is_taken(rt: HostRuntime) {
+    for (name, settings, body, mode, limit) in &TAKEN {
+        let mut session = Session::new(*settings);
+        let _ = answer(&rt, &mut session, Call::Opened);
+        is(&rt, session.mode(), None, name);
+        let _ = answer(&rt, &mut session, Call::Open(*body));
+        is(&rt, session.mode(), Some(*mode), name);
+        is(&rt, session.limit(), *limit, name);
+        is(&rt, session.identifier(), 0xc000_020b, name);
+    }
 }
