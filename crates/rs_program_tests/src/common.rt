@@ -21,11 +21,6 @@ pub(crate) fn is_of<T: Debug + PartialEq + Drop>(rt: &impl Abort, found: T, want
     assert_eq!(rt; found, want, "of {number}");
 }
 
-/// What the text says holds.
-pub(crate) fn holds(rt: &impl Abort, is_so: bool, what: &str) {
-    assert!(rt; is_so, "{what}");
-}
-
 /// What the text says holds of a number.
 pub(crate) fn holds_of(rt: &impl Abort, is_so: bool, what: &str, number: u64) {
     assert!(rt; is_so, "{what}, of {number}");

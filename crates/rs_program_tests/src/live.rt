@@ -3,7 +3,6 @@
 mod hold_timers;
 mod loopback;
 mod orders;
-mod rate_limits;
 mod recording;
 mod reloading;
 mod reports;

@@ -5,8 +5,6 @@ use rs_trace::fault::ReplayFault;
 use rs_trace::trace::LineFault;
 use std::alloc::Global;
 use std::process::Abort;
-use std::sync::Wait;
-use std::thread::Threads;
 
 mod devices;
 mod watching;
@@ -42,7 +40,7 @@ peer = "192.0.2.14"
 "#;
 
 /// Lines, each with its fault.
-const FAULTS: [(&str, LineFault); 61] = [
+static FAULTS: [(&str, LineFault); 61] = [
     // The first word. A blank at the front makes an empty one, and a CR is an octet like others.
     ("turns", LineFault::UnknownWord),
     ("TURN", LineFault::UnknownWord),
@@ -112,84 +110,55 @@ const FAULTS: [(&str, LineFault); 61] = [
     ("rules 0", LineFault::BadHex),
 ];
 
-/// The fourth line of a trace has this fault.
-fn is_faulty<R: Threads + Wait + Sync + Abort>(
-    rt: &R,
-    alloc: Global,
-    line: &str,
-    fault: LineFault,
-) {
-    let trace = format!(in alloc; "turn\n\n# {line}\n{line}\nopen a\nopen a\n");
-    let trace = trace.expect(rt, "a trace");
-    let (played, written) = play(rt, alloc, MEMBERS, trace.as_bytes());
-    is(rt, played, Err(ReplayFault::Line(4, fault)), line);
-    let wanted = format!(in alloc; "line 4: {fault}\n").expect(rt, "a text");
-    is(rt, written.as_slice(), wanted.as_bytes(), line);
-}
-
 #[test]
 fn faults_of_lines(rt: HostRuntime) {
+    let alloc = rt.alloc();
     for (line, fault) in &FAULTS {
-        is_faulty(&rt, rt.alloc(), line, *fault);
+        let trace = format!(in alloc; "turn\n\n# {line}\n{line}\nopen a\nopen a\n");
+        let trace = trace.expect(&rt, "a trace");
+        let (played, written) = play(&rt, alloc, MEMBERS, trace.as_bytes());
+        let wanted = Err(ReplayFault::Line(4, *fault));
+        is(&rt, played, wanted, line);
+        let wanted = format!(in alloc; "line 4: {fault}\n");
+        let wanted = wanted.expect(&rt, "a text");
+        is(&rt, written.as_slice(), wanted.as_bytes(), line);
     }
 }
 
-/// Traces with a fault, each with what is written.
-const TEXTS: [(&str, &str); 5] = [
+/// Traces, each with what is written: the fault that it has, or nothing.
+static TEXTS: [(&str, &str); 24] = [
     ("turns", "line 1: unknown word\n"),
     ("\nturn \n", "line 2: word count\n"),
     ("open z\n", "line 1: unknown client\n"),
     ("room a x\n", "line 1: bad number\n"),
     ("octets a x\n", "line 1: bad hex\n"),
+    ("", ""),
+    ("\n", ""),
+    ("\n\n", ""),
+    ("# a comment \n", ""),
+    ("#", ""),
+    ("turn", ""),
+    ("turn\n", ""),
+    ("octets a", ""),
+    ("octets a ", ""),
+    ("octets a 00ffFFaA\n", ""),
+    ("room a 0", ""),
+    ("room a 00000000000000000005", ""),
+    ("room a 18446744073709551615", ""),
+    ("moment 18446744073709551615\nmoment 0", ""),
+    ("lost a\nlost d", ""),
+    ("shutdown a\nshutdown d 627965", ""),
+    ("shutdown a c3A9", ""),
+    ("refresh a", ""),
+    ("table a", ""),
 ];
 
-/// Of a trace this is written.
-fn is_written<R: Threads + Wait + Sync + Abort>(rt: &R, alloc: Global, trace: &str, wanted: &str) {
-    let (_, written) = play(rt, alloc, MEMBERS, trace.as_bytes());
-    is(rt, written.as_slice(), wanted.as_bytes(), trace);
-}
-
 #[test]
-fn texts_of_faults(rt: HostRuntime) {
+fn what_is_written_of_lines(rt: HostRuntime) {
     for (trace, wanted) in &TEXTS {
-        is_written(&rt, rt.alloc(), trace, wanted);
-    }
-}
-
-/// Traces without a fault, of which nothing is written.
-const GOOD: [&str; 19] = [
-    "",
-    "\n",
-    "\n\n",
-    "# a comment \n",
-    "#",
-    "turn",
-    "turn\n",
-    "octets a",
-    "octets a ",
-    "octets a 00ffFFaA\n",
-    "room a 0",
-    "room a 00000000000000000005",
-    "room a 18446744073709551615",
-    "moment 18446744073709551615\nmoment 0",
-    "lost a\nlost d",
-    "shutdown a\nshutdown d 627965",
-    "shutdown a c3A9",
-    "refresh a",
-    "table a",
-];
-
-/// A trace has no fault, and nothing is written.
-fn is_good<R: Threads + Wait + Sync + Abort>(rt: &R, alloc: Global, trace: &str) {
-    let (played, written) = play(rt, alloc, MEMBERS, trace.as_bytes());
-    is(rt, played, Ok(()), trace);
-    is(rt, written.len(), 0, trace);
-}
-
-#[test]
-fn good_lines(rt: HostRuntime) {
-    for trace in &GOOD {
-        is_good(&rt, rt.alloc(), trace);
+        let (played, written) = play(&rt, rt.alloc(), MEMBERS, trace.as_bytes());
+        is(&rt, played.is_ok(), wanted.is_empty(), trace);
+        is(&rt, written.as_slice(), wanted.as_bytes(), trace);
     }
 }
 
@@ -202,7 +171,7 @@ fn put_line(rt: &impl Abort, trace: &mut Vec<u8>, word: &str, octet: u8, count: 
 }
 
 /// Long lines: a word, the octet that stands behind it and how often, and the fault.
-const LONG: [(&str, u8, usize, Option<LineFault>); 14] = [
+static LONG: [(&str, u8, usize, Option<LineFault>); 14] = [
     ("", b'#', 8240, None),
     ("", b'#', 8241, Some(LineFault::TooLong)),
     ("", b'#', 20000, Some(LineFault::TooLong)),
@@ -219,40 +188,21 @@ const LONG: [(&str, u8, usize, Option<LineFault>); 14] = [
     ("octets a ", b'0', 8232, Some(LineFault::TooLong)),
 ];
 
-/// The first line of a trace has this fault, or none.
-fn is_played<R: Threads + Wait + Sync + Abort>(
-    rt: &R,
-    alloc: Global,
-    trace: &[u8],
-    fault: Option<LineFault>,
-    count: usize,
-) {
-    let wanted = match fault {
-        None => Ok(()),
-        Some(fault) => Err(ReplayFault::Line(1, fault)),
-    };
-    let (played, _) = play(rt, alloc, MEMBERS, trace);
-    is_of(rt, played, wanted, count as u64);
-}
-
-/// A long line is answered as its row says, with the end of a line and without.
-fn is_answered<R: Threads + Wait + Sync + Abort>(
-    rt: &R,
-    alloc: Global,
-    row: &(&str, u8, usize, Option<LineFault>),
-) {
-    let (word, octet, count, fault) = *row;
-    let mut line = Vec::new(alloc);
-    put_line(rt, &mut line, word, octet, count);
-    is_played(rt, alloc, &line, fault, count);
-    put(rt, &mut line, b"\n");
-    is_played(rt, alloc, &line, fault, count);
-}
-
+/// Each is answered as its row says, with the end of a line and without.
 #[test]
 fn long_lines(rt: HostRuntime) {
-    for row in &LONG {
-        is_answered(&rt, rt.alloc(), row);
+    for (word, octet, count, fault) in &LONG {
+        let wanted = match fault {
+            None => Ok(()),
+            Some(fault) => Err(ReplayFault::Line(1, *fault)),
+        };
+        let mut line = Vec::new(rt.alloc());
+        put_line(&rt, &mut line, word, *octet, *count);
+        for end in [b"".as_slice(), b"\n".as_slice()] {
+            put(&rt, &mut line, end);
+            let (played, _) = play(&rt, rt.alloc(), MEMBERS, &line);
+            is_of(&rt, played, wanted, *count as u64);
+        }
     }
 }
 

@@ -1,10 +1,8 @@
 //! Hold timers where the server was kept from reading.
 
-use crate::common::is;
-use crate::live::rounds::{A, B, COMING_UP, KEEPALIVE, comes_up, served, until};
-use crate::live::script::Script;
-use std::alloc::Global;
-use std::process::Abort;
+use crate::common::is_of;
+use crate::live::rounds::{CONFIRMS, KEEPALIVE, MEMBER_A, MEMBER_B, TWO_SESSIONS, served};
+use crate::live::script::{Member, Said, Script};
 
 /// The OPENs of the two members with a Hold Time of 9 seconds.
 const OPEN_A: &[u8] =
@@ -17,40 +15,48 @@ const OPEN_B: &[u8] =
 const EXPIRED: &[u8] =
     b"\xff\xff\xff\xff\xff\xff\xff\xff\xff\xff\xff\xff\xff\xff\xff\xff\x00\x15\x03\x04\x00";
 
-/// Two members; the server stands still for so many seconds before the tenth round, in which a KEEPALIVE
-/// of a's lies there. b says nothing.
-fn stalled(rt: &impl Abort, alloc: Global, seconds: u64) -> Script {
-    let mut ports = Script::new(alloc, 0);
-    ports.wire(rt, 0, A, &comes_up(OPEN_A), COMING_UP);
-    ports.say_later(0, 10, KEEPALIVE);
-    ports.stay(0, 30);
-    ports.wire(rt, 1, B, &comes_up(OPEN_B), COMING_UP);
-    ports.stay(1, 30);
-    ports.stall = Some((10, seconds));
-    ports
-}
+/// The members say nothing more, but for a KEEPALIVE of a's that lies there in the tenth round.
+static MEMBERS: [Member; 2] = [
+    Member {
+        says: &[
+            Said {
+                octets: OPEN_A,
+                behind: 0,
+            },
+            CONFIRMS,
+        ],
+        later: Some((10, KEEPALIVE)),
+        stays: 30,
+        ..MEMBER_A
+    },
+    Member {
+        says: &[
+            Said {
+                octets: OPEN_B,
+                behind: 0,
+            },
+            CONFIRMS,
+        ],
+        stays: 30,
+        ..MEMBER_B
+    },
+];
 
-/// Whether the hold timers of a and of b expired.
-fn have_expired(rt: &impl Abort, ports: &Script, want: (bool, bool), when: &str) {
-    let a = ports.heard(0).ends_with(EXPIRED);
-    let b = ports.heard(1).ends_with(EXPIRED);
-    is(rt, (a, b), want, when);
-}
+/// For so many seconds the server stands still before the tenth round, and then the hold timer of b expired or not.
+static STALLS: [(u64, bool); 4] = [(8, false), (9, true), (12, true), (16, true)];
 
 #[test]
 fn a_keepalive_that_lay_there_while_the_server_stood_still_counts(rt: HostRuntime) {
-    for (seconds, when) in [(9, "after 9"), (12, "after 12"), (16, "after 16")] {
-        let mut ports = stalled(&rt, rt.alloc(), seconds);
-        served(&rt, rt.alloc(), &mut ports, until(2));
-        have_expired(&rt, &ports, (false, true), when);
+    for (seconds, b_expires) in &STALLS {
+        let mut ports = Script::new(rt.alloc());
+        for member in &MEMBERS {
+            ports.join(&rt, *member);
+        }
+        ports.stall = Some((10, *seconds));
+        served(&rt, rt.alloc(), &mut ports, TWO_SESSIONS);
+        let a = ports.heard(0).ends_with(EXPIRED);
+        let b = ports.heard(1).ends_with(EXPIRED);
+        is_of(&rt, (a, b), (false, *b_expires), *seconds);
         ports.let_go();
     }
-}
-
-#[test]
-fn nobody_is_lost_before_the_hold_time_has_passed(rt: HostRuntime) {
-    let mut ports = stalled(&rt, rt.alloc(), 8);
-    served(&rt, rt.alloc(), &mut ports, until(2));
-    have_expired(&rt, &ports, (false, false), "after 8");
-    ports.let_go();
 }

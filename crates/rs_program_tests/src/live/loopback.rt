@@ -1,7 +1,7 @@
 //! The server over sockets on loopback.
 
 use crate::common::is;
-use crate::live::rounds::{COMING_UP, KEEPALIVE, OPEN_A, OPEN_B, UPDATE, until};
+use crate::live::rounds::{COMING_UP, KEEPALIVE, OPEN_A, OPEN_B, TWO_SESSIONS, UPDATE};
 use rs_live::connections::listen_addresses;
 use rs_live::serve::serve;
 use rs_policy::Config;
@@ -55,7 +55,7 @@ fn a_route_goes_over_sockets(rt: HostRuntime) -> Result<(), Fail> {
     )?;
     let (served, heard) = thread::join(
         &rt,
-        || serve(&rt, alloc, &mut ports, config, until(2)),
+        || serve(&rt, alloc, &mut ports, config, TWO_SESSIONS),
         || exchange(&rt),
     );
     is(&rt, heard?.as_slice(), UPDATE, "what b is sent");

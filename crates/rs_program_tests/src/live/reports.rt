@@ -25,26 +25,17 @@ const DISCARDED: Option<AttributeFault> = Some(AttributeFault {
 });
 
 /// A report reads so.
-fn is_worded(rt: &impl Abort, alloc: Global, report: Report, words: &str) {
+fn is_worded(rt: &impl Abort, alloc: Global, report: &Report, words: &str) {
     let config = config(rt, alloc, THREE);
     let names = Names::of(alloc, &config).expect(rt, "names");
-    shows(rt, format!(in alloc; "{}", Worded(&report, &names)), words);
-}
-
-/// b's session ended so.
-fn down(ending: Option<Ending>) -> Report {
-    Report::Down {
-        client: 1,
-        ending,
-        offered: None,
-    }
+    shows(rt, format!(in alloc; "{}", Worded(report, &names)), words);
 }
 
 /// The address of a connection, 192.0.2.77.
 const ADDRESS: u32 = 0xc000_024d;
 
 /// Reports, and how each reads.
-const REPORTS: [(Report, &str); 10] = [
+static REPORTS: [(Report, &str); 15] = [
     (
         Report::Strangers {
             address: ADDRESS,
@@ -104,88 +95,75 @@ const REPORTS: [(Report, &str); 10] = [
         },
         "a: 4 reports left out",
     ),
-];
-
-/// UPDATEs of a client, so many, of which the last had these faults, and how they read.
-const AT_FAULT: [(
-    usize,
-    u64,
-    Option<AttributeFault>,
-    Option<AttributeFault>,
-    &str,
-); 3] = [
     (
-        0,
-        1,
-        None,
-        DISCARDED,
+        Report::Busy {
+            client: 1,
+            address: 0xc000_020c,
+            count: 2,
+            holder: Holder::Session,
+        },
+        "b busy: 2 connections from 192.0.2.12 closed, its session is up",
+    ),
+    (
+        Report::Faulted {
+            client: 0,
+            count: 1,
+            last: Faulted {
+                withdraw: None,
+                discard: DISCARDED,
+                mp_reach: false,
+            },
+        },
         "a: 1 UPDATE at fault: AGGREGATOR (7) discarded: wrong length",
     ),
     (
-        0,
-        2,
-        WITHDRAWN,
-        None,
+        Report::Faulted {
+            client: 0,
+            count: 2,
+            last: Faulted {
+                withdraw: WITHDRAWN,
+                discard: None,
+                mp_reach: false,
+            },
+        },
         "a: 2 UPDATEs at fault, the last: ORIGIN (1) treated as withdraw: malformed value",
     ),
     (
-        2,
-        3,
-        WITHDRAWN,
-        DISCARDED,
+        Report::Faulted {
+            client: 2,
+            count: 3,
+            last: Faulted {
+                withdraw: WITHDRAWN,
+                discard: DISCARDED,
+                mp_reach: false,
+            },
+        },
         "c: 3 UPDATEs at fault, the last: ORIGIN (1) treated as withdraw: malformed value; AGGREGATOR (7) discarded: wrong length",
     ),
-];
-
-/// How it reads that UPDATEs of a client were at fault.
-fn fault_is_worded(
-    rt: &impl Abort,
-    alloc: Global,
-    row: &(
-        usize,
-        u64,
-        Option<AttributeFault>,
-        Option<AttributeFault>,
-        &str,
+    (
+        Report::Down {
+            client: 1,
+            ending: Some(Ending::Said(Short::Note {
+                code: 6,
+                sub: 4,
+                extra: [0; 129],
+                count: 0,
+            })),
+            offered: None,
+        },
+        "b down: NOTIFICATION sent: Cease, Administrative Reset (6, 4)",
     ),
-) {
-    let (client, count, withdraw, discard, words) = *row;
-    let last = Faulted {
-        withdraw,
-        discard,
-        mp_reach: false,
-    };
-    let report = Report::Faulted {
-        client,
-        count,
-        last,
-    };
-    is_worded(rt, alloc, report, words);
-}
-
-/// How it reads that a NOTIFICATION of ours ended b's session.
-fn end_is_worded(rt: &impl Abort, alloc: Global, said: Short, words: &str) {
-    is_worded(rt, alloc, down(Some(Ending::Said(said))), words);
-}
-
-/// How it reads that the operator has ended b's session with this text.
-fn shutdown_is_worded(rt: &impl Abort, alloc: Global, text: &[u8], words: &str) {
-    let text = ShutdownText::of(text).unwrap_or(ShutdownText::NONE);
-    end_is_worded(rt, alloc, Short::shutdown(text), words);
-}
+];
 
 #[test]
 fn each_report_in_words(rt: HostRuntime) {
     for (report, words) in &REPORTS {
-        is_worded(&rt, rt.alloc(), *report, words);
-    }
-    for row in &AT_FAULT {
-        fault_is_worded(&rt, rt.alloc(), row);
+        is_worded(&rt, rt.alloc(), report, words);
     }
 }
 
 /// Texts by which the operator ends a session, and how the end reads.
-const SHUTDOWNS: [(&[u8], &str); 2] = [
+static SHUTDOWNS: [(&[u8], &str); 2] = [
     (
         b"",
         "b down: session ended by the operator: Cease, Administrative Shutdown (6, 2)",
@@ -197,11 +175,15 @@ const SHUTDOWNS: [(&[u8], &str); 2] = [
 ];
 
 #[test]
-fn ends_by_the_server_in_words(rt: HostRuntime) {
-    let reset = "b down: NOTIFICATION sent: Cease, Administrative Reset (6, 4)";
-    end_is_worded(&rt, rt.alloc(), Short::note(6, 4), reset);
+fn ends_by_the_operator_in_words(rt: HostRuntime) {
     for (text, words) in &SHUTDOWNS {
-        shutdown_is_worded(&rt, rt.alloc(), text, words);
+        let text = ShutdownText::of(text).unwrap_or(ShutdownText::NONE);
+        let report = Report::Down {
+            client: 1,
+            ending: Some(Ending::Said(Short::shutdown(text))),
+            offered: None,
+        };
+        is_worded(&rt, rt.alloc(), &report, words);
     }
 }
 
@@ -210,18 +192,8 @@ fn ends_by_the_server_in_words(rt: HostRuntime) {
 const OPEN: &[u8] =
     b"\xff\xff\xff\xff\xff\xff\xff\xff\xff\xff\xff\xff\xff\xff\xff\xff\x00\x25\x01\x04\x5b\xa0\x00\x02\xc0\x00\x02\x0b\x08\x02\x06\x41\x04\x00\x00\xfd\xe7\xff\xff";
 
-/// How it reads that client a's session ended by a NOTIFICATION of ours, a fault of this OPEN of this subcode.
-fn refusal_is_worded(rt: &impl Abort, alloc: Global, sub: u8, words: &str) {
-    let report = Report::Down {
-        client: 0,
-        ending: Some(Ending::Said(Short::note(2, sub))),
-        offered: Offered::at_front(OPEN),
-    };
-    is_worded(rt, alloc, report, words);
-}
-
 /// Subcodes of faults of an OPEN, each with how the refusal reads.
-const REFUSALS: [(u8, &str); 4] = [
+static REFUSALS: [(u8, &str); 4] = [
     (
         2,
         "a down: NOTIFICATION sent: OPEN Message Error, Bad Peer AS (2, 2): 64999, not 64496",
@@ -244,26 +216,17 @@ const REFUSALS: [(u8, &str); 4] = [
 fn what_an_open_offered_in_words(rt: HostRuntime) {
     is(&rt, Offered::at_front(&OPEN[..36]), None, "a cut OPEN");
     for (sub, words) in &REFUSALS {
-        refusal_is_worded(&rt, rt.alloc(), *sub, words);
+        let report = Report::Down {
+            client: 0,
+            ending: Some(Ending::Said(Short::note(2, *sub))),
+            offered: Offered::at_front(OPEN),
+        };
+        is_worded(&rt, rt.alloc(), &report, words);
     }
 }
 
-/// How it reads that client b's session ended by a NOTIFICATION of the client's with this subcode of Cease and this data.
-fn notice_is_worded(rt: &impl Abort, alloc: Global, sub: u8, said: &[u8], words: &str) {
-    let mut data = [0; NOTICE_MAX];
-    let count = said.len().min(NOTICE_MAX);
-    data[..count].copy_from_slice(&said[..count]);
-    let notice = Notice {
-        code: 6,
-        sub,
-        data,
-        count,
-    };
-    is_worded(rt, alloc, down(Some(Ending::Heard(notice))), words);
-}
-
 /// Subcodes of Cease with data, and how the end reads.
-const NOTICES: [(u8, &[u8], &str); 3] = [
+static NOTICES: [(u8, &[u8], &str); 3] = [
     (
         2,
         b"\x0fcaf\xc3\xa9\n\x1b[31m\xe2\x80\xae\"",
@@ -284,28 +247,22 @@ const NOTICES: [(u8, &[u8], &str); 3] = [
 #[test]
 fn texts_of_notifications_in_words(rt: HostRuntime) {
     for (sub, said, words) in &NOTICES {
-        notice_is_worded(&rt, rt.alloc(), *sub, said, words);
+        let mut data = [0; NOTICE_MAX];
+        let count = said.len().min(NOTICE_MAX);
+        data[..count].copy_from_slice(&said[..count]);
+        let notice = Notice {
+            code: 6,
+            sub: *sub,
+            data,
+            count,
+        };
+        let report = Report::Down {
+            client: 1,
+            ending: Some(Ending::Heard(notice)),
+            offered: None,
+        };
+        is_worded(&rt, rt.alloc(), &report, words);
     }
-}
-
-#[test]
-fn closed_connections_in_words(rt: HostRuntime) {
-    let busy = Report::Busy {
-        client: 1,
-        address: 0xc000_020c,
-        count: 2,
-        holder: Holder::Session,
-    };
-    let words = "b busy: 2 connections from 192.0.2.12 closed, its session is up";
-    is_worded(&rt, rt.alloc(), busy, words);
-}
-
-/// Data of the size that is kept, with this length octet and this last one.
-fn cut(length: u8, last: u8) -> [u8; NOTICE_MAX] {
-    let mut data = [b'a'; NOTICE_MAX];
-    data[0] = length;
-    data[NOTICE_MAX - 1] = last;
-    data
 }
 
 /// How many octets of text there are in the data of an Administrative Shutdown, and whether it is whole.
@@ -314,13 +271,8 @@ fn said_in(data: &[u8]) -> Option<(usize, bool)> {
     Some((said.text.len(), said.is_whole))
 }
 
-/// So much of a text is in these data, and it is whole or not; or there is none.
-fn says(rt: &impl Abort, data: &[u8], wanted: Option<(usize, bool)>) {
-    is(rt, said_in(data), wanted, "a text");
-}
-
 /// Data, and how much of a text is in them.
-const LENGTHS: [(&[u8], Option<(usize, bool)>); 5] = [
+static LENGTHS: [(&[u8], Option<(usize, bool)>); 5] = [
     (b"\x00", Some((0, true))),
     (b"\x04down", Some((4, true))),
     (b"\x05down", None),
@@ -328,33 +280,36 @@ const LENGTHS: [(&[u8], Option<(usize, bool)>); 5] = [
     (b"", None),
 ];
 
+/// The length octet and the last octet of data of the size that is kept, and how much of a text is in them.
+static KEPT: [(u8, u8, Option<(usize, bool)>); 4] = [
+    (63, b'a', Some((63, true))),
+    (200, b'a', Some((63, false))),
+    (200, 0xc3, Some((62, false))),
+    (200, 0xff, None),
+];
+
 #[test]
 fn lengths_of_texts(rt: HostRuntime) {
     for (data, wanted) in &LENGTHS {
-        says(&rt, data, *wanted);
+        is(&rt, said_in(data), *wanted, "a text");
     }
-    says(&rt, &cut(63, b'a'), Some((63, true)));
-    says(&rt, &cut(200, b'a'), Some((63, false)));
-    says(&rt, &cut(200, 0xc3), Some((62, false)));
-    says(&rt, &cut(200, 0xff), None);
-}
-
-/// A stamp reads so.
-fn is_stamped(rt: &impl Abort, alloc: Global, stamp: Stamp, wanted: &str) {
-    shows(rt, format!(in alloc; "{stamp}"), wanted);
+    let mut data = [b'a'; NOTICE_MAX];
+    for (length, last, wanted) in &KEPT {
+        data[0] = *length;
+        data[NOTICE_MAX - 1] = *last;
+        is(&rt, said_in(&data), *wanted, "a text");
+    }
 }
 
 /// Dates by GNU date.
 #[test]
 fn stamps(rt: HostRuntime) {
-    let alloc = rt.alloc();
-    is_stamped(&rt, alloc, Stamp::Seconds(61), "61");
-    is_stamped(&rt, alloc, Stamp::Utc(0), "1970-01-01T00:00:00Z");
-    is_stamped(&rt, alloc, Stamp::Utc(951_868_799), "2000-02-29T23:59:59Z");
-    is_stamped(
-        &rt,
-        alloc,
-        Stamp::Utc(1_795_613_680),
-        "2026-11-25T13:34:40Z",
-    );
+    for (stamp, text) in [
+        (Stamp::Seconds(61), "61"),
+        (Stamp::Utc(0), "1970-01-01T00:00:00Z"),
+        (Stamp::Utc(951_868_799), "2000-02-29T23:59:59Z"),
+        (Stamp::Utc(1_795_613_680), "2026-11-25T13:34:40Z"),
+    ] {
+        shows(&rt, format!(in rt.alloc(); "{stamp}"), text);
+    }
 }

@@ -3,7 +3,7 @@
 ghost use Rattle.std.specs.Prelude.{◌≤◌};
 ghost use Rattle.rs_reports.specs.Levels.{is_shown};
 
-use crate::common::is;
+use crate::common::{is, put};
 use rs_control::order::Order;
 use rs_core::Core;
 use rs_live::orders;
@@ -29,21 +29,28 @@ pub struct Said {
     pub behind: usize,
 }
 
+/// A member, as a script has it.
+#[derive(Clone, Copy)]
+pub struct Member {
+    pub listener: usize,
+    pub address: u32,
+    pub says: &'static [Said],
+    /// It closes once it has said all and was sent so many octets, and not before the round `stays`.
+    pub until: usize,
+    pub stays: u64,
+    /// It comes in this round, after each member before it.
+    pub comes: u64,
+    /// What it says in or after this round, once it has said all else.
+    pub later: Option<(u64, &'static [u8])>,
+    /// From this round on it takes no octets.
+    pub deaf: u64,
+}
+
 /// A connection of a member.
 #[derive(Drop)]
 pub struct Wire {
-    incoming: Incoming,
-    says: Vec<Said>,
+    member: Member,
     given: usize,
-    /// The member closes once it has said all and was sent so many octets, and not before this round.
-    until: usize,
-    stays: u64,
-    /// It comes in this round.
-    comes: u64,
-    /// What it says in or after this round, once it has said all else.
-    later: Option<(u64, &'static [u8])>,
-    /// From this round on it takes no octets.
-    deaf: u64,
     pub heard: Vec<u8>,
     pub is_open: bool,
 }
@@ -78,7 +85,7 @@ pub struct Script {
     accepts: u64,
     pub most_accepts: u64,
     calls: u64,
-    failing: u64,
+    pub failing: u64,
     pub broken: Option<Broken>,
     /// It failed while members may still be sent something, and not in the round in which all close.
     pub is_early: bool,
@@ -105,7 +112,7 @@ pub struct Script {
 }
 
 impl Script {
-    pub fn new(alloc: Global, failing: u64) -> Script {
+    pub fn new(alloc: Global) -> Script {
         Script {
             alloc,
             wires: Vec::new(alloc),
@@ -114,7 +121,7 @@ impl Script {
             accepts: 0,
             most_accepts: 0,
             calls: 0,
-            failing,
+            failing: 0,
             broken: None,
             is_early: false,
             end: u64::MAX,
@@ -137,61 +144,15 @@ impl Script {
         }
     }
 
-    /// A connection that comes from this address.
-    pub fn wire(
-        &mut self,
-        rt: &impl Abort,
-        listener: usize,
-        address: u32,
-        says: &[Said],
-        until: usize,
-    ) {
-        let key = self.wires.len();
+    /// This member has a connection.
+    pub fn join(&mut self, rt: &impl Abort, member: Member) {
         let wire = Wire {
-            incoming: Incoming {
-                listener,
-                address,
-                key,
-            },
-            says: Vec::from_slice(self.alloc, says).expect(rt, "what it says"),
+            member,
             given: 0,
-            until,
-            stays: 0,
-            comes: 0,
-            later: None,
-            deaf: u64::MAX,
             heard: Vec::new(self.alloc),
             is_open: false,
         };
         self.wires.push(wire).expect(rt, "a connection");
-    }
-
-    /// The member of this connection doesn't close before this round.
-    pub fn stay(&mut self, key: usize, round: u64) {
-        if let Some(wire) = self.wires.get_mut(key) {
-            wire.stays = round;
-        }
-    }
-
-    /// The member of this connection says this in or after this round.
-    pub fn say_later(&mut self, key: usize, round: u64, octets: &'static [u8]) {
-        if let Some(wire) = self.wires.get_mut(key) {
-            wire.later = Some((round, octets));
-        }
-    }
-
-    /// The member of this connection takes no octets from this round on.
-    pub fn deafen(&mut self, key: usize, round: u64) {
-        if let Some(wire) = self.wires.get_mut(key) {
-            wire.deaf = round;
-        }
-    }
-
-    /// This connection, and each after it, doesn't come before this round.
-    pub fn come(&mut self, key: usize, round: u64) {
-        if let Some(wire) = self.wires.get_mut(key) {
-            wire.comes = round;
-        }
     }
 
     /// The operator orders this in this round, after all before.
@@ -208,20 +169,52 @@ impl Script {
         }
     }
 
-    /// What the server says first.
+    /// What the server says first is this.
     pub fn says_first(&self, rt: &impl Abort, lines: &[Line]) {
         let found = self.said.get(..lines.len());
-        is(rt, found, Some(lines), "what the server says first");
+        assert!(rt; found == Some(lines), "what the server says first");
+    }
+
+    /// On a connection these messages were sent, one behind the other, and nothing else.
+    pub fn hears(&self, rt: &impl Abort, key: usize, messages: &[&[u8]]) {
+        let mut want = Vec::new(self.alloc);
+        for message in messages {
+            put(rt, &mut want, message);
+        }
+        is(rt, self.heard(key), want.as_slice(), "what was sent");
+    }
+
+    /// All connections are closed.
+    pub fn are_closed(&self, rt: &impl Abort) {
+        for wire in &self.wires {
+            assert!(rt; !wire.is_open, "a connection is closed");
+        }
+    }
+
+    /// How often this was reported.
+    pub fn reported(&self, wanted: &Report) -> usize {
+        let mut count = 0usize;
+        for report in &self.reports {
+            if report == wanted {
+                count = count.saturating_add(1);
+            }
+        }
+        count
+    }
+
+    /// How often the server says this line.
+    pub fn says(&self, wanted: Line) -> usize {
+        let mut count = 0usize;
+        for line in &self.said {
+            if *line == wanted {
+                count = count.saturating_add(1);
+            }
+        }
+        count
     }
 
     /// Lets it go in one call, which is one step of a test, and not one for each of its lists.
     pub fn let_go(self) {}
-
-    /// A connection is accepted.
-    fn count_accept(&mut self) {
-        self.accepts = self.accepts.saturating_add(1);
-        self.most_accepts = self.most_accepts.max(self.accepts);
-    }
 
     /// Counts a call, and answers whether it fails.
     fn fails(&mut self, call: Broken) -> bool {
@@ -233,11 +226,6 @@ impl Script {
         }
         fails
     }
-}
-
-/// These octets of what was sent on a connection.
-pub fn sent(rt: &impl Abort, octets: Option<&[u8]>, want: &[u8]) {
-    is(rt, octets, Some(want), "octets");
 }
 
 /// Lays octets at the front of a piece, and answers how many.
@@ -270,14 +258,25 @@ impl Ports for Script {
         let incoming = match self.wires.get_mut(self.accepted) {
             None if self.is_flooded => STRANGER,
             None => return Ok(None),
-            Some(wire) if self.rounds < wire.comes => return Ok(None),
+            Some(wire) if self.rounds < wire.member.comes => return Ok(None),
             Some(wire) => {
-                self.accepted = self.accepted.saturating_add(1);
+                let key = self.accepted;
+                self.accepted = key.saturating_add(1);
                 wire.is_open = true;
-                wire.incoming
+                let Member {
+                    listener,
+                    address,
+                    ..
+                } = wire.member;
+                Incoming {
+                    listener,
+                    address,
+                    key,
+                }
             }
         };
-        self.count_accept();
+        self.accepts = self.accepts.saturating_add(1);
+        self.most_accepts = self.most_accepts.max(self.accepts);
         Ok(Some(incoming))
     }
 
@@ -291,14 +290,14 @@ impl Ports for Script {
         if self.rounds >= self.end {
             return Ok(Some(0));
         }
-        let Some(said) = wire.says.get(wire.given) else {
-            if let Some((round, octets)) = wire.later
+        let Some(said) = wire.member.says.get(wire.given) else {
+            if let Some((round, octets)) = wire.member.later
                 && self.rounds >= round
             {
-                wire.later = None;
+                wire.member.later = None;
                 return Ok(Some(lay(piece, octets)));
             }
-            let is_done = wire.heard.len() >= wire.until && self.rounds >= wire.stays;
+            let is_done = wire.heard.len() >= wire.member.until && self.rounds >= wire.member.stays;
             return Ok(if is_done { Some(0) } else { None });
         };
         if wire.heard.len() < said.behind {
@@ -315,7 +314,7 @@ impl Ports for Script {
         let Some(wire) = self.wires.get_mut(key) else {
             return Ok(None);
         };
-        if self.rounds >= wire.deaf {
+        if self.rounds >= wire.member.deaf {
             return Ok(None);
         }
         match wire.heard.extend_from_slice(octets) {

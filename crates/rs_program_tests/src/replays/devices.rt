@@ -6,9 +6,10 @@ ghost use Rattle.std.proofs.KnownBytes.{Consumes-nil, Consumes-trans, Appends-ni
 ghost use Rattle.rs_trace.specs.Texts.{IsKnown, none_left};
 
 use super::MEMBERS;
-use crate::common::{is, is_of, play_over};
+use crate::common::{holds_of, is, is_of, play_over};
 use rs_trace::fault::ReplayFault;
-use rs_trace::text::{Failed, OverRead, OverWrite, TextIn, TextOut};
+use rs_trace::text::{Failed, OverWrite, TextIn, TextOut};
+use rs_trace::trace::LineFault;
 use std::alloc::Global;
 use std::process::Abort;
 use std::sync::Wait;
@@ -113,82 +114,45 @@ const READINGS: u64 = 64;
 
 const WRITINGS: u64 = 82;
 
-/// A writer that takes so many calls, and fails after them.
-fn failing_out(alloc: Global, good_calls: u64) -> FailingOut {
-    FailingOut {
-        text: Vec::new(alloc),
-        good_calls,
-        failures: 0,
-    }
-}
-
-/// Whether all is written, where the last call that wrote did not fail; else what was written is the front of it.
-fn has_written(rt: &impl Abort, writer: &FailingOut, is_whole: bool, good_calls: u64) {
-    let text = writer.text.as_slice();
-    let wanted = if is_whole {
-        Some(WRITTEN)
-    } else {
-        WRITTEN.get(..text.len())
-    };
-    is_of(rt, Some(text), wanted, good_calls);
-}
-
-/// A device that failed is the fault that is answered.
-fn is_answered(
-    rt: &impl Abort,
-    played: Result<(), ReplayFault>,
-    fault: ReplayFault,
-    good_calls: u64,
-) {
-    is_of(rt, played, Err(fault), good_calls);
-}
-
-/// Whether reading fails after so many calls.
-fn reading_fails<R: Threads + Wait + Sync + Abort>(rt: &R, alloc: Global, good_calls: u64) -> bool {
+/// Reading fails after so many calls, or writing does, where the trace needs more; all is written, where no call
+/// that wrote failed, and else the front of it.
+fn fails<R: Threads + Wait + Sync + Abort>(rt: &R, alloc: Global, readings: u64, writings: u64) {
     let mut reader = FailingIn {
         text: TRACE,
-        good_calls,
+        good_calls: readings,
         failures: 0,
     };
-    let mut writer = failing_out(alloc, 100);
+    let mut writer = FailingOut {
+        text: Vec::new(alloc),
+        good_calls: writings,
+        failures: 0,
+    };
     let played = play_over(rt, alloc, MEMBERS, &mut reader, &mut writer);
-    let fails = reader.failures > 0;
-    has_written(rt, &writer, !fails, good_calls);
-    is(rt, writer.failures, 0, "failures of the writer");
-    if fails {
-        is_answered(rt, played, ReplayFault::Reading, good_calls);
-    }
-    fails
-}
-
-/// Whether writing fails after so many calls.
-fn writing_fails<R: Threads + Wait + Sync + Abort>(rt: &R, alloc: Global, good_calls: u64) -> bool {
-    let mut reader = OverRead::new(TRACE);
-    let mut writer = failing_out(alloc, good_calls);
-    let played = play_over(rt, alloc, MEMBERS, &mut reader, &mut writer);
-    let fails = writer.failures > 0;
-    has_written(rt, &writer, !fails, good_calls);
-    if fails {
-        is_answered(rt, played, ReplayFault::Writing, good_calls);
-        is(rt, writer.failures, 1, "failures of the writer");
-    }
-    fails
+    let number = readings.min(writings);
+    let (no_reading, no_writing) = (readings < READINGS, writings < WRITINGS);
+    is_of(rt, reader.failures > 0, no_reading, number);
+    is_of(rt, writer.failures, u64::from(no_writing), number);
+    let wanted = if no_reading {
+        ReplayFault::Reading
+    } else if no_writing {
+        ReplayFault::Writing
+    } else {
+        ReplayFault::Line(15, LineFault::UnknownWord)
+    };
+    is_of(rt, played, Err(wanted), number);
+    let text = writer.text.as_slice();
+    let is_whole = !no_reading && !no_writing;
+    let is_front = WRITTEN.starts_with(text);
+    let is_so = is_front && (!is_whole || text.len() == WRITTEN.len());
+    holds_of(rt, is_so, "what is written", number);
 }
 
 #[test]
 fn each_call_failing(rt: HostRuntime) {
-    let mut readings = 0u64;
-    let mut writings = 0u64;
     for good_calls in 0..100u64 {
-        if reading_fails(&rt, rt.alloc(), good_calls) {
-            readings = readings.saturating_add(1);
-        }
-        if writing_fails(&rt, rt.alloc(), good_calls) {
-            writings = writings.saturating_add(1);
-        }
+        fails(&rt, rt.alloc(), good_calls, 100);
+        fails(&rt, rt.alloc(), 100, good_calls);
     }
-    is(&rt, readings, READINGS, "readings");
-    is(&rt, writings, WRITINGS, "writings");
 }
 
 #[test]
@@ -201,7 +165,7 @@ fn counts_that_are_full(rt: HostRuntime) {
     let mut written = Vec::new(rt.alloc());
     let mut writer = OverWrite::new(&mut written);
     let played = play_over(&rt, rt.alloc(), MEMBERS, &mut reader, &mut writer);
-    is_answered(&rt, played, ReplayFault::Reading, 100);
+    is(&rt, played, Err(ReplayFault::Reading), "the replay");
     is(&rt, reader.failures, u64::MAX, "failures of the reader");
     is(&rt, reader.text, TRACE, "what is left to be read");
 }

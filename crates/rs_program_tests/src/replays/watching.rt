@@ -32,23 +32,17 @@ fn session(rt: &impl Abort, alloc: Global) -> Vec<u8> {
     said
 }
 
-/// In pieces of this size two UPDATEs are counted, and one more behind them.
-fn has_two(rt: &impl Abort, said: &[u8], size: usize) {
-    assert!(rt; size > 0);
-    let mut message = Message::new();
-    let mut updates: u64 = 0;
-    for piece in said.chunks(size) {
-        updates = updates.saturating_add(message.take_all(piece));
-    }
-    is_of(rt, updates, 2, size as u64);
-    let behind = message.take_all(&header(19, 2));
-    is_of(rt, behind, 1, size as u64);
-}
-
 #[test]
 fn updates_in_any_pieces(rt: HostRuntime) {
     let said = session(&rt, rt.alloc());
     for size in [1, 7, 18, 19, 20, 64, 4096] {
-        has_two(&rt, &said, size);
+        let mut message = Message::new();
+        let mut updates: u64 = 0;
+        for piece in said.chunks(size) {
+            updates = updates.saturating_add(message.take_all(piece));
+        }
+        // and one more behind them
+        let behind = message.take_all(&header(19, 2));
+        is_of(&rt, (updates, behind), (2, 1), size as u64);
     }
 }
