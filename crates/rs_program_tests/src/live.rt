@@ -1,7 +1,6 @@
-//! The server over ports in memory, whose members follow a script, and over sockets on loopback.
+//! The server over ports in memory, whose members follow a script.
 
 mod hold_timers;
-mod loopback;
 mod orders;
 mod recording;
 mod reloading;

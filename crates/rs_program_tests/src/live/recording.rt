@@ -11,13 +11,13 @@ use std::process::Abort;
 
 /// The lines of the record of an exchange of one route, written by hand: each round has its moment, and behind
 /// what was heard come a moment, a turn and room.
-const ROUTE: &[u8] =
-    b"octets a ffffffffffffffffffffffffffffffff002f02000000144001010040020602010000fbf0400304c000020b18c63364";
+const ROUTE: &str =
+    "octets a ffffffffffffffffffffffffffffffff002f02000000144001010040020602010000fbf0400304c000020b18c63364";
 
 /// The octets of the lines `sent` of a client in a replay's output.
-fn sent_in(rt: &impl Abort, alloc: Global, output: &[u8], front: &[u8]) -> Vec<u8> {
+fn sent_in(rt: &impl Abort, alloc: Global, output: &str, front: &str) -> Vec<u8> {
     let mut octets = Vec::new(alloc);
-    for line in output.split(|octet| *octet == b'\n') {
+    for line in output.lines() {
         if let Some(digits) = line.strip_prefix(front) {
             let sent = hex::decode(alloc, digits).expect(rt, "octets");
             put(rt, &mut octets, &sent);
@@ -27,9 +27,9 @@ fn sent_in(rt: &impl Abort, alloc: Global, output: &[u8], front: &[u8]) -> Vec<u
 }
 
 /// How often this line stands in a record.
-fn count(record: &[u8], wanted: &[u8]) -> usize {
+fn count(record: &str, wanted: &str) -> usize {
     let mut count = 0_usize;
-    for line in record.split(|octet| *octet == b'\n') {
+    for line in record.lines() {
         if line == wanted {
             count = count.saturating_add(1);
         }
@@ -47,16 +47,16 @@ fn a_record_is_replayed_as_it_was(rt: HostRuntime) {
     ports.hears(&rt, 0, &[OPEN_S, KEEPALIVE]);
     ports.hears(&rt, 1, &[OPEN_S, KEEPALIVE, UPDATE]);
     let record = ports.record.take().expect(&rt, "a record");
-    let lines: [&[u8]; 5] = [b"open a", b"open b", ROUTE, b"lost a", b"lost b"];
-    for line in lines {
-        is(&rt, (line, count(&record, line)), (line, 1), "lines");
+    let text = str::from_utf8(&record).unwrap_or("");
+    for line in ["open a", "open b", ROUTE, "lost a", "lost b"] {
+        is(&rt, count(text, line), 1, line);
     }
     let (played, output) = play(&rt, alloc, THREE, &record);
     is(&rt, played, Ok(()), "the replay");
-    let fronts: [&[u8]; 2] = [b"sent a ", b"sent b "];
-    for (key, front) in fronts.iter().enumerate() {
-        let sent = sent_in(&rt, alloc, &output, front);
-        is(&rt, sent.as_slice(), ports.heard(key), "what is sent");
+    let output = str::from_utf8(&output).unwrap_or("");
+    for (key, front) in [(0, "sent a "), (1, "sent b ")] {
+        let sent = sent_in(&rt, alloc, output, front);
+        is(&rt, sent.as_slice(), ports.heard(key), front);
     }
     ports.let_go();
 }
