@@ -11,7 +11,7 @@ use rs_attrs::Mode;
 use rs_octets::HeaderFault;
 use rs_open::{Limit, Short, ShutdownText, read_open};
 use rs_session::{Act, Busy, Command, Heard, Session, Settings, State};
-use std::alloc::{AllocError, Global};
+use std::alloc::Global;
 use std::process::Abort;
 
 /// A client of AS 64496, and a Hold Time of 90.
@@ -63,40 +63,45 @@ fn answer(rt: &impl Abort, session: &mut Session, call: Call) -> Result<Act, Bus
     Ok(Act::None)
 }
 
-/// Puts an answer behind others: a word, and of a NOTIFICATION its code, its subcode and its data.
-fn put_words(
-    alloc: Global,
-    words: &mut String,
-    answer: Result<Act, Busy>,
-) -> Result<(), AllocError> {
-    let word = match answer {
-        Ok(Act::None) => " -",
-        Ok(Act::Say(Short::Open)) => " OPEN",
-        Ok(Act::Say(Short::Keepalive)) => " KEEPALIVE",
-        Ok(Act::Up) => " up",
-        Ok(Act::Again) => " again",
-        Ok(Act::Down(None)) => " down",
-        Ok(
-            Act::Down(
-                Some(
-                    Short::Note {
-                        code,
-                        sub,
-                        extra,
-                        count,
-                    },
-                ),
-            ),
-        ) => {
-            let octets = [code, sub, extra[0], extra[1]];
-            let note = octets.get(..2 + usize::from(count)).unwrap_or(&[]);
-            words.push_str(" down:")?;
-            return words.push_str(&hex::encode(alloc, note)?);
-        }
-        Ok(Act::Say(_) | Act::Down(_)) => " what no session says",
-        Err(Busy) => " busy",
+/// A word for an answer.
+fn word_for(answer: &Result<Act, Busy>) -> &'static str {
+    let Ok(act) = answer else {
+        return " busy";
     };
-    words.push_str(word)
+    match act {
+        Act::None => " -",
+        Act::Up => " up",
+        Act::Again => " again",
+        Act::Down(said) => if said.is_some() { " down:" } else { " down" },
+        Act::Say(short) => match short {
+            Short::Open => " OPEN",
+            Short::Keepalive => " KEEPALIVE",
+            Short::Note { .. } => " a NOTIFICATION",
+        },
+    }
+}
+
+/// Puts an answer behind others: its word, and of a NOTIFICATION its code, its subcode and its data.
+fn put_words(rt: &impl Abort, alloc: Global, words: &mut String, answer: Result<Act, Busy>) {
+    words.push_str(word_for(&answer)).expect(rt, "a text");
+    if let Ok(
+        Act::Down(
+            Some(
+                Short::Note {
+                    code,
+                    sub,
+                    extra,
+                    count,
+                },
+            ),
+        ),
+    ) = answer
+    {
+        let note = [code, sub, extra[0], extra[1]];
+        let note = note.get(..2 + usize::from(count)).unwrap_or(&[]);
+        let digits = hex::encode(alloc, note).expect(rt, "a text");
+        words.push_str(&digits).expect(rt, "a text");
+    }
 }
 
 #[test]
@@ -110,7 +115,7 @@ fn calls_in_each_state(rt: HostRuntime) {
                 is(&rt, session.state(), *state, answers);
             }
             let answered = answer(&rt, &mut session, *call);
-            put_words(rt.alloc(), &mut found, answered).expect(&rt, "a text");
+            put_words(&rt, rt.alloc(), &mut found, answered);
         }
         is(&rt, found.as_str(), *answers, "the answers");
     }
@@ -124,7 +129,7 @@ fn sessions_by_their_calls(rt: HostRuntime) {
         let mut found = String::new(rt.alloc());
         for call in *calls {
             let answered = answer(&rt, &mut session, *call);
-            put_words(rt.alloc(), &mut found, answered).expect(&rt, "a text");
+            put_words(&rt, rt.alloc(), &mut found, answered);
         }
         is(&rt, found.as_str(), *answers, name);
         is(&rt, session.state(), *state, name);

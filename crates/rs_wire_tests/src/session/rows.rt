@@ -23,7 +23,7 @@ pub(super) static STEPS: [(Call, State); 4] = [
 ];
 
 /// Calls, each with its answers in Idle, OpenSent, OpenConfirm, Established and Closing.
-pub(super) static IN_EACH_STATE: [(Call, &str); 19] = [
+pub(super) static IN_EACH_STATE: [(Call, &str); 27] = [
     (Call::Opened, " OPEN busy busy busy busy"),
     (KEEPALIVE, " - down:0500 up - -"),
     (UPDATE, " - down:0500 down:0500 - -"),
@@ -52,6 +52,26 @@ pub(super) static IN_EACH_STATE: [(Call, &str); 19] = [
         Call::Open(VERSION_3),
         " - down:02010004 down:0500 down:0500 -",
     ),
+    // OPENs that are refused
+    (Call::Open(MALFORMED), " - down:0200 down:0500 down:0500 -"),
+    (Call::Open(PARAMETER), " - down:0204 down:0500 down:0500 -"),
+    (Call::Open(OTHER), " - down:0202 down:0500 down:0500 -"),
+    // another AS comes before Hold Time 2, and before all else
+    (
+        Call::Open(OTHER_HOLD_2),
+        " - down:0202 down:0500 down:0500 -",
+    ),
+    (
+        Call::Open(OTHER_NOTHING),
+        " - down:0202 down:0500 down:0500 -",
+    ),
+    (Call::Open(HOLD_2), " - down:0206 down:0500 down:0500 -"),
+    (
+        Call::Open(NO_IDENTIFIER),
+        " - down:0203 down:0500 down:0500 -",
+    ),
+    // a large AS of a client that has another
+    (Call::Open(OF_LARGE), " - down:0202 down:0500 down:0500 -"),
     // faults of headers
     (
         Call::Hear(Heard::Header(HeaderFault::Marker)),
@@ -78,70 +98,14 @@ pub(super) static IN_EACH_STATE: [(Call, &str); 19] = [
 /// What a row shows, the settings, the calls, their answers, and the state behind them.
 type Script = (&'static str, Settings, &'static [Call], &'static str, State);
 
-/// Clients without a Hold Time and such a server, whose sessions no moment ends.
+/// The server has no Hold Time.
 const UNHURRIED: Settings = Settings {
     hold: 0,
     ..SETTINGS
 };
 
-/// Sessions by their calls.
-pub(super) static SCRIPTS: [Script; 18] = [
-    (
-        "malformed",
-        SETTINGS,
-        &[Call::Opened, Call::Open(MALFORMED)],
-        " OPEN down:0200",
-        State::Closing,
-    ),
-    (
-        "another parameter",
-        SETTINGS,
-        &[Call::Opened, Call::Open(PARAMETER)],
-        " OPEN down:0204",
-        State::Closing,
-    ),
-    (
-        "another AS",
-        SETTINGS,
-        &[Call::Opened, Call::Open(OTHER)],
-        " OPEN down:0202",
-        State::Closing,
-    ),
-    (
-        "another AS before Hold Time 2",
-        SETTINGS,
-        &[Call::Opened, Call::Open(OTHER_HOLD_2)],
-        " OPEN down:0202",
-        State::Closing,
-    ),
-    (
-        "another AS before all else",
-        SETTINGS,
-        &[Call::Opened, Call::Open(OTHER_NOTHING)],
-        " OPEN down:0202",
-        State::Closing,
-    ),
-    (
-        "Hold Time 2",
-        SETTINGS,
-        &[Call::Opened, Call::Open(HOLD_2)],
-        " OPEN down:0206",
-        State::Closing,
-    ),
-    (
-        "no identifier",
-        SETTINGS,
-        &[Call::Opened, Call::Open(NO_IDENTIFIER)],
-        " OPEN down:0203",
-        State::Closing,
-    ),
-    (
-        "a large AS of a client that has another",
-        SETTINGS,
-        &[Call::Opened, Call::Open(OF_LARGE)],
-        " OPEN down:0202",
-        State::Closing,
-    ),
+/// Sessions by their calls: timers, and what comes behind an end.
+pub(super) static SCRIPTS: [Script; 10] = [
     (
         "an OPEN is waited for four minutes",
         SETTINGS,
