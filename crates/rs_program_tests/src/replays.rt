@@ -162,14 +162,6 @@ fn what_is_written_of_lines(rt: HostRuntime) {
     }
 }
 
-/// Puts a word and so many octets of one kind behind it.
-fn put_line(rt: &impl Abort, trace: &mut Vec<u8>, word: &str, octet: u8, count: usize) {
-    put(rt, trace, word.as_bytes());
-    for _ in 0..count {
-        put(rt, trace, &[octet]);
-    }
-}
-
 /// Long lines: a word, the octet that stands behind it and how often, and the fault.
 static LONG: [(&str, u8, usize, Option<LineFault>); 14] = [
     ("", b'#', 8240, None),
@@ -197,7 +189,9 @@ fn long_lines(rt: HostRuntime) {
             Some(fault) => Err(ReplayFault::Line(1, *fault)),
         };
         let mut line = Vec::new(rt.alloc());
-        put_line(&rt, &mut line, word, *octet, *count);
+        put(&rt, &mut line, word.as_bytes());
+        let length = line.len().saturating_add(*count);
+        line.resize(length, *octet).expect(&rt, "a line");
         for end in [b"".as_slice(), b"\n".as_slice()] {
             put(&rt, &mut line, end);
             let (played, _) = play(&rt, rt.alloc(), MEMBERS, &line);
@@ -209,12 +203,12 @@ fn long_lines(rt: HostRuntime) {
 #[test]
 fn long_lines_behind_others(rt: HostRuntime) {
     let mut trace = Vec::new(rt.alloc());
-    put_line(&rt, &mut trace, "#", b'x', 8239);
-    put(&rt, &mut trace, b"\n");
-    put_line(&rt, &mut trace, "#", b'y', 8239);
-    put(&rt, &mut trace, b"\n");
-    put_line(&rt, &mut trace, "#", b'z', 8240);
-    put(&rt, &mut trace, b"\nturn\n");
+    for length in [8240, 16_481, 24_723] {
+        put(&rt, &mut trace, b"#");
+        trace.resize(length, b'x').expect(&rt, "a line");
+        put(&rt, &mut trace, b"\n");
+    }
+    put(&rt, &mut trace, b"turn\n");
     let (played, written) = play(&rt, rt.alloc(), MEMBERS, &trace);
     let fault = ReplayFault::Line(3, LineFault::TooLong);
     is(&rt, played, Err(fault), "the fault");

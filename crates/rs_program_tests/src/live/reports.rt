@@ -5,7 +5,6 @@ use crate::live::rounds::THREE;
 use rs_attrs::{AttributeFault, Cause, Faulted, Mode};
 use rs_core::{Ending, NOTICE_MAX, Notice};
 use rs_open::{Limit, Short, ShutdownText};
-use rs_reports::communications::communication_in;
 use rs_reports::offers::Offered;
 use rs_reports::reports::{Holder, Report};
 use rs_sockets::names::Names;
@@ -226,11 +225,17 @@ fn what_an_open_offered_in_words(rt: HostRuntime) {
 }
 
 /// Subcodes of Cease with data, and how the end reads.
-static NOTICES: [(u8, &[u8], &str); 3] = [
+static NOTICES: [(u8, &[u8], &str); 4] = [
     (
         2,
         b"\x0fcaf\xc3\xa9\n\x1b[31m\xe2\x80\xae\"",
         "b down: NOTIFICATION heard: Cease, Administrative Shutdown (6, 2), \"caf\u{e9}\\n\\u{1b}[31m\\u{202e}\\\"\"",
+    ),
+    // a longer text, of which 63 octets are kept: the last one is the front of a character
+    (
+        2,
+        b"\xc8aaaaaaaaaaaaaaaaaaaaaaaaaaaaaaaaaaaaaaaaaaaaaaaaaaaaaaaaaaaaaa\xc3",
+        "b down: NOTIFICATION heard: Cease, Administrative Shutdown (6, 2), \"aaaaaaaaaaaaaaaaaaaaaaaaaaaaaaaaaaaaaaaaaaaaaaaaaaaaaaaaaaaaaa\" and more",
     ),
     (
         4,
@@ -262,42 +267,6 @@ fn texts_of_notifications_in_words(rt: HostRuntime) {
             offered: None,
         };
         is_worded(&rt, rt.alloc(), &report, words);
-    }
-}
-
-/// How many octets of text there are in the data of an Administrative Shutdown, and whether it is whole.
-fn said_in(data: &[u8]) -> Option<(usize, bool)> {
-    let said = communication_in(6, 2, data)?;
-    Some((said.text.len(), said.is_whole))
-}
-
-/// Data, and how much of a text is in them.
-static LENGTHS: [(&[u8], Option<(usize, bool)>); 5] = [
-    (b"\x00", Some((0, true))),
-    (b"\x04down", Some((4, true))),
-    (b"\x05down", None),
-    (b"\x03down", None),
-    (b"", None),
-];
-
-/// The length octet and the last octet of data of the size that is kept, and how much of a text is in them.
-static KEPT: [(u8, u8, Option<(usize, bool)>); 4] = [
-    (63, b'a', Some((63, true))),
-    (200, b'a', Some((63, false))),
-    (200, 0xc3, Some((62, false))),
-    (200, 0xff, None),
-];
-
-#[test]
-fn lengths_of_texts(rt: HostRuntime) {
-    for (data, wanted) in &LENGTHS {
-        is(&rt, said_in(data), *wanted, "a text");
-    }
-    let mut data = [b'a'; NOTICE_MAX];
-    for (length, last, wanted) in &KEPT {
-        data[0] = *length;
-        data[NOTICE_MAX - 1] = *last;
-        is(&rt, said_in(&data), *wanted, "a text");
     }
 }
 
