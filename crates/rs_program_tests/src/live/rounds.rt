@@ -10,6 +10,7 @@ use rs_live::ports::Line;
 use rs_live::serve::{Limits, ServeFault, serve};
 use rs_octets::Notification;
 use rs_open::Short;
+use rs_reports::logging::Level;
 use rs_reports::offers::Offered;
 use rs_reports::reports::{Holder, Report};
 use std::alloc::Global;
@@ -217,6 +218,19 @@ fn strangers_and_second_connections_are_closed(rt: HostRuntime) {
         holder: Holder::Connection,
     };
     is(&rt, ports.reported(&busy), 1, "reports");
+    ports.let_go();
+}
+
+#[test]
+fn what_goes_wrong_alone_is_told(rt: HostRuntime) {
+    let mut ports = exchange(&rt, rt.alloc());
+    ports.log.level = Some(Level::Error);
+    served(&rt, rt.alloc(), &mut ports, TWO_SESSIONS);
+    is(&rt, ports.reports.len(), 2, "reports");
+    for report in &ports.reports {
+        let is_down = matches!(report, Report::Down { .. });
+        assert!(rt; is_down, "it tells of a session that is down");
+    }
     ports.let_go();
 }
 
