@@ -187,18 +187,17 @@ fn a_route_goes_by_many_workers(rt: HostRuntime) {
     }
 }
 
+/// a says nothing.
+const SILENT: Member = Member {
+    says: &[],
+    ..MEMBER_A
+};
+
 #[test]
 fn strangers_and_second_connections_are_closed(rt: HostRuntime) {
     let mut ports = exchange(&rt, rt.alloc());
     for listener in [1, 0] {
-        ports.join(
-            &rt,
-            Member {
-                listener,
-                says: &[],
-                ..MEMBER_A
-            },
-        );
+        ports.join(&rt, Member { listener, ..SILENT });
     }
     served(&rt, rt.alloc(), &mut ports, TWO_SESSIONS);
     ports.says_first(
@@ -360,33 +359,35 @@ const NO_NEXT_HOP: &[u8] =
 const IPV6_ROUTE: &[u8] =
     b"\xff\xff\xff\xff\xff\xff\xff\xff\xff\xff\xff\xff\xff\xff\xff\xff\x00\x34\x02\x00\x00\x00\x1d\x80\x0e\x1a\x00\x02\x01\x10\x20\x01\x0d\xb8\x00\x00\x00\x00\x00\x00\x00\x00\x00\x00\x00\x01\x00\x20\x20\x01\x0d\xb8";
 
+/// a comes up and sends these UPDATEs.
+static AMISS: [Said; 7] = [
+    A_OPENS,
+    CONFIRMS,
+    Said {
+        octets: IPV6_ROUTE,
+        behind: COMING_UP,
+    },
+    Said {
+        octets: IPV6_ROUTE,
+        behind: COMING_UP,
+    },
+    Said {
+        octets: BAD_ORIGIN,
+        behind: COMING_UP,
+    },
+    Said {
+        octets: BAD_ORIGIN,
+        behind: COMING_UP,
+    },
+    Said {
+        octets: NO_NEXT_HOP,
+        behind: COMING_UP,
+    },
+];
+
 #[test]
 fn what_goes_amiss_is_reported_once_a_second(rt: HostRuntime) {
-    let says = &[
-        A_OPENS,
-        CONFIRMS,
-        Said {
-            octets: IPV6_ROUTE,
-            behind: COMING_UP,
-        },
-        Said {
-            octets: IPV6_ROUTE,
-            behind: COMING_UP,
-        },
-        Said {
-            octets: BAD_ORIGIN,
-            behind: COMING_UP,
-        },
-        Said {
-            octets: BAD_ORIGIN,
-            behind: COMING_UP,
-        },
-        Said {
-            octets: NO_NEXT_HOP,
-            behind: COMING_UP,
-        },
-    ];
-    let ports = hears_of_a(&rt, rt.alloc(), says);
+    let ports = hears_of_a(&rt, rt.alloc(), &AMISS);
     // all were heard in one round, so in one second
     let faulted = Report::Faulted {
         client: 0,
@@ -406,9 +407,12 @@ fn what_goes_amiss_is_reported_once_a_second(rt: HostRuntime) {
     ports.let_go();
 }
 
+/// What b is to say comes on a's connection.
+static OF_B: [Said; 1] = [B_OPENS];
+
 #[test]
 fn what_a_refused_open_offered_is_reported(rt: HostRuntime) {
-    let ports = hears_of_a(&rt, rt.alloc(), &[B_OPENS]);
+    let ports = hears_of_a(&rt, rt.alloc(), &OF_B);
     let down = Report::Down {
         client: 0,
         ending: Some(Ending::Said(Short::of(Notification::BadPeerAs))),
@@ -423,20 +427,20 @@ fn what_a_refused_open_offered_is_reported(rt: HostRuntime) {
     ports.let_go();
 }
 
+/// a says an OPEN without a Hold Time, and takes no octets.
+const DEAF: Member = Member {
+    says: &[Said {
+        octets: OPEN_HOLD_0,
+        behind: 0,
+    }],
+    deaf: 0,
+    ..MEMBER_A
+};
+
 #[test]
 fn a_member_that_takes_nothing_is_lost_after_the_send_hold_time(rt: HostRuntime) {
     let mut ports = Script::new(rt.alloc());
-    ports.join(
-        &rt,
-        Member {
-            says: &[Said {
-                octets: OPEN_HOLD_0,
-                behind: 0,
-            }],
-            deaf: 0,
-            ..MEMBER_A
-        },
-    );
+    ports.join(&rt, DEAF);
     ports.pace = 60;
     let limits = Limits {
         sessions: Some(1),

@@ -263,14 +263,9 @@ impl Ports for Script {
                 let key = self.accepted;
                 self.accepted = key.saturating_add(1);
                 wire.is_open = true;
-                let Member {
-                    listener,
-                    address,
-                    ..
-                } = wire.member;
                 Incoming {
-                    listener,
-                    address,
+                    listener: wire.member.listener,
+                    address: wire.member.address,
                     key,
                 }
             }
