@@ -7,40 +7,21 @@ fn has_number(rt: &impl Abort, ins: &AdjIns, of: (u32, u8), want: Option<u32>) {
     equals(rt, ins.number(prefix(rt, of)), want);
 }
 
-/// A number is given up, or kept.
-fn releases(rt: &impl Abort, ins: &mut AdjIns, number: u32, want: bool) {
-    equals(rt, ins.release(number), want);
-}
-
-/// There are so many numbers, of which 2 is this prefix's, or nobody's.
-fn has_2(rt: &impl Abort, ins: &AdjIns, count: usize, of: Option<(u32, u8)>) {
-    equals(rt, ins.numbers(), count);
-    let found = ins.prefix(2).map(|it| (it.bits(), it.len()));
-    equals(rt, found, of);
-}
-
-/// Of a prefix that others hold, the number is kept; of one that nobody holds, it is given up.
-fn are_kept_while_held(rt: &impl Abort, ins: &mut AdjIns) {
-    releases(rt, ins, 2, false);
-    clear(rt, ins, 0);
-    has_number(rt, ins, INNER, Some(2));
-    releases(rt, ins, 2, true);
-    has_number(rt, ins, INNER, None);
-}
-
 /// A number stays until it is given up, which it isn't while a client has a route there, and then
 /// serves another prefix.
 #[test]
 fn numbers_stay_until_given_up(rt: HostRuntime) {
     let mut ins = filled(&rt, rt.alloc());
     let other = (0x0b00_0000, 8);
-    has_number(&rt, &ins, WIDE, Some(0));
-    has_2(&rt, &ins, 3, Some(INNER));
-    are_kept_while_held(&rt, &mut ins);
-    has_2(&rt, &ins, 3, None);
-    put_one(&rt, rt.alloc(), &mut ins, 1, other, 1);
+    equals(&rt, ins.prefix(2), Some(prefix(&rt, INNER)));
+    is_so(&rt, !ins.release(2), "a client has a route there");
+    clear(&rt, &mut ins, 0);
+    has_number(&rt, &ins, INNER, Some(2));
+    is_so(&rt, ins.release(2), "nobody has");
+    has_number(&rt, &ins, INNER, None);
+    put(&rt, rt.alloc(), &mut ins, 1, other, 1);
     has_number(&rt, &ins, other, Some(2));
-    has_2(&rt, &ins, 3, Some(other));
+    equals(&rt, ins.numbers(), 3);
     let_go(ins);
 }
 
@@ -60,22 +41,17 @@ fn holds_by_number(
     equals(rt, held.as_slice(), want);
 }
 
-/// What clients 0 and 1 hold. The prefix that stands between two others came last, and has the greatest number.
+/// What client 0 holds. The prefix that stands between two others came last, and has the greatest number.
 static OF_0: [(u32, u8, u32); 3] = [
     (WIDE.0, WIDE.1, 0),
     (OTHER.0, OTHER.1, 1),
     (INNER.0, INNER.1, 2),
 ];
 
-static OF_1: [(u32, u8, u32); 2] = [(WIDE.0, WIDE.1, 0), (OTHER.0, OTHER.1, 1)];
-
 #[test]
-fn what_is_held_rises_by_prefix_or_by_number(rt: HostRuntime) {
-    let alloc = rt.alloc();
-    let ins = filled(&rt, alloc);
-    holds(&rt, alloc, &ins, 0, &ALL_THREE);
-    holds_by_number(&rt, alloc, &ins, 0, &OF_0);
-    holds_by_number(&rt, alloc, &ins, 1, &OF_1);
+fn what_is_held_rises_by_number(rt: HostRuntime) {
+    let ins = filled(&rt, rt.alloc());
+    holds_by_number(&rt, rt.alloc(), &ins, 0, &OF_0);
     let_go(ins);
 }
 
@@ -98,74 +74,26 @@ fn changes_at(
     equals(rt, changed, want);
 }
 
-/// Withdraws a route by the number of its prefix, or answers None where the prefix has none.
-fn withdraw_at(rt: &impl Abort, ins: &mut AdjIns, client: usize, of: (u32, u8)) -> Option<bool> {
+/// A client withdraws its route by the number of its prefix, and has it no more.
+fn withdraws_at(rt: &impl Abort, ins: &mut AdjIns, client: usize, of: (u32, u8)) {
     assert!(rt; client < ins.clients());
-    let number = ins.number(prefix(rt, of))?;
-    Some(ins.withdraw_at(client, number))
-}
-
-/// Withdraws a route by the number of its prefix: one that a client has, or has not, or None where the prefix has none.
-fn withdraws_at(
-    rt: &impl Abort,
-    ins: &mut AdjIns,
-    client: usize,
-    of: (u32, u8),
-    want: Option<bool>,
-) {
-    equals(rt, withdraw_at(rt, ins, client, of), want);
-}
-
-/// The last octet of the next hop of a client's route.
-fn route(rt: &impl Abort, ins: &AdjIns, client: usize, of: (u32, u8)) -> Option<u32> {
-    Some(ins.route(client, prefix(rt, of))?.next_hop()? % 256)
-}
-
-/// A client's route has a next hop with this last octet, or it has none.
-fn has_route(rt: &impl Abort, ins: &AdjIns, client: usize, of: (u32, u8), want: Option<u32>) {
-    equals(rt, route(rt, ins, client, of), want);
-}
-
-/// Who has a route for which prefix, with which last octet of its next hop.
-static ROUTES: [(usize, (u32, u8), Option<u32>); 4] = [
-    (1, INNER, Some(1)),
-    (2, INNER, Some(2)),
-    (0, INNER, None),
-    (1, WIDE, None),
-];
-
-/// Routes that are withdrawn: one that a client has, or has not, or None where the prefix has no number.
-static WITHDRAWN: [(usize, (u32, u8), Option<bool>); 3] = [
-    (0, INNER, Some(false)),
-    (1, INNER, Some(true)),
-    (1, WIDE, None),
-];
-
-/// Routes of two clients for one prefix, of which one comes twice.
-fn put_routes(rt: &impl Abort, alloc: Global, ins: &mut AdjIns) {
-    let one = attrs(rt, alloc, 1);
-    let two = attrs(rt, alloc, 2);
-    changes_at(rt, ins, 1, INNER, &one, true);
-    changes_at(rt, ins, 1, INNER, &one, false);
-    changes_at(rt, ins, 2, INNER, &two, true);
-    let_attrs_go(one);
-    let_attrs_go(two);
+    let number = ins.number(prefix(rt, of)).expect(rt, "a number");
+    is_so(rt, ins.withdraw_at(client, number), "it was there");
+    is_so(rt, ins.route(client, prefix(rt, of)).is_none(), "none");
 }
 
 #[test]
 fn routes_by_number_are_routes_by_prefix(rt: HostRuntime) {
     let alloc = rt.alloc();
     let mut ins = tables(&rt, alloc, 3);
-    put_routes(&rt, alloc, &mut ins);
-    for (client, of, want) in &ROUTES {
-        has_route(&rt, &ins, *client, *of, *want);
+    let one = attrs(&rt, alloc, 1);
+    // the second time it is there
+    for (client, changed) in [(1, true), (1, false), (2, true)] {
+        changes_at(&rt, &mut ins, client, INNER, &one, changed);
     }
-    holds(&rt, alloc, &ins, 1, &[INNER]);
-    for (client, of, want) in &WITHDRAWN {
-        withdraws_at(&rt, &mut ins, *client, *of, *want);
-    }
-    has_route(&rt, &ins, 1, INNER, None);
-    are_at(&rt, alloc, &ins, INNER, &[(2, 2)]);
+    withdraws_at(&rt, &mut ins, 1, INNER);
+    are_candidates(&rt, alloc, &ins, INNER, &[(2, 0, 1)]);
+    let_attrs_go(one);
     let_go(ins);
 }
 
@@ -174,7 +102,7 @@ fn routes_by_number_are_routes_by_prefix(rt: HostRuntime) {
 fn come_and_go(rt: &impl Abort, ins: &mut AdjIns, attrs: &Arc<Attrs>, first: u32, count: u32) {
     let shared = ins.share(attrs).expect(rt, "a set");
     for n in first..first.saturating_add(count) {
-        put_in(rt, ins, 0, (n.wrapping_mul(256), 24), &shared).expect(rt, "a route");
+        put_in(rt, ins, 0, (n.wrapping_mul(256), 24), &shared);
     }
     for n in first..first.saturating_add(count) {
         withdraw(rt, ins, 0, (n.wrapping_mul(256), 24));

@@ -22,7 +22,7 @@ fn puts(
     want: usize,
 ) -> u32 {
     let shared = ins.share(attrs).expect(rt, "a set");
-    put_in(rt, ins, client, of, &shared).expect(rt, "a route");
+    put_in(rt, ins, client, of, &shared);
     ins.forget(shared.set);
     equals(rt, ins.set_count(), want);
     shared.set
@@ -54,11 +54,6 @@ fn is_set(rt: &impl Abort, ins: &AdjIns, attrs: &Arc<Attrs>, want: Option<u32>) 
     }
 }
 
-/// There are so many sets.
-fn has_sets(rt: &impl Abort, ins: &AdjIns, want: usize) {
-    equals(rt, ins.set_count(), want);
-}
-
 /// The routes of one UPDATE share a set, as do those of another with equal attributes.
 fn put_equal(rt: &impl Abort, alloc: Global, ins: &mut AdjIns) {
     let one = attrs(rt, alloc, 1);
@@ -83,14 +78,14 @@ fn replace_both(rt: &impl Abort, alloc: Global, ins: &mut AdjIns) {
 #[test]
 fn sets_of_routes_are_counted(rt: HostRuntime) {
     let mut ins = tables(&rt, rt.alloc(), 3);
-    has_sets(&rt, &ins, 0);
+    equals(&rt, ins.set_count(), 0);
     put_equal(&rt, rt.alloc(), &mut ins);
     replace_both(&rt, rt.alloc(), &mut ins);
     for (client, of, sets) in [(0, WIDE, 2), (2, WIDE, 2), (0, INNER, 1)] {
         withdraws(&rt, &mut ins, client, of, sets);
     }
     clear(&rt, &mut ins, 1);
-    has_sets(&rt, &ins, 0);
+    equals(&rt, ins.set_count(), 0);
     let_go(ins);
 }
 
@@ -141,7 +136,7 @@ fn are_forgotten(rt: &impl Abort, ins: &mut AdjIns, attrs: &Arc<Attrs>) -> u32 {
     is_set(rt, ins, attrs, Some(shared.set));
     ins.forget(shared.set);
     is_set(rt, ins, attrs, None);
-    has_sets(rt, ins, 0);
+    equals(rt, ins.set_count(), 0);
     shared.set
 }
 
