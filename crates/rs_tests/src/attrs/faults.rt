@@ -1,7 +1,7 @@
 //! What is noted of fields that are not well formed.
 
 use super::octets;
-use crate::common::{equals, is, is_of, parts, text_of};
+use crate::common::{equals, is, parts, text_of};
 use rs_attrs::{AttributeFault, Cause, Faulted, Mode, attribute_name, read};
 use std::alloc::{AllocError, Global};
 use std::process::Abort;
@@ -12,43 +12,35 @@ const ROWS: &str = "nothing |  | none; none
 a good field | 40010100 40020602010000fbf0 400304c000020b | none; none
 an unrecognized optional one | c06302abcd | none; none
 LOCAL_PREF and MP_REACH_NLRI | 400504000000c8 800e00 | none; none
-ORIGIN 3 | 40010103 | 1 value; none
-ORIGIN of two octets | 4001020000 | 1 length; none
-ORIGIN optional | c0010100 | 1 flags; none
-the flags before the value | c00105 | 1 position; none
-the flags and the value | c0010105 | 1 flags; none
-AS_PATH that runs over | 40020502010000fb | 2 value; none
-AS_PATH of a confederation | 40020603010000fbf0 | 2 value; none
-NEXT_HOP of 3 octets | 400303c00002 | 3 length; none
-COMMUNITIES of no octet | c00800 | 8 length; none
-AGGREGATOR of 6 octets | c00706fbf0c0000201 | none; 7 length
-AGGREGATOR well-known | 400708fbf00000c0000201 | 7 flags; none
-MED twice | 80040400000005 80040400000006 | none; 4 twice
-MED a third time, and ORIGIN before it | 80040400000005 40010103 80040400000006 | 1 value; 4 twice
-the first of two in the order of the field | c00800 40010103 | 8 length; none
-the first of two that are discarded | 40060100 c00706fbf0c0000201 | none; 6 length
-a rest of one octet | 40010100 40 | 0 position; none
-a rest behind a bad attribute | 40010103 4002ff | 1 value; none
-a value that runs past the end | 40010100 c0080400 | 8 position; none";
+ORIGIN 3 | 40010103 | 1 Value; none
+ORIGIN of two octets | 4001020000 | 1 Length; none
+ORIGIN optional | c0010100 | 1 Flags; none
+the flags before the value | c00105 | 1 Position; none
+the flags and the value | c0010105 | 1 Flags; none
+AS_PATH that runs over | 40020502010000fb | 2 Value; none
+AS_PATH of a confederation | 40020603010000fbf0 | 2 Value; none
+NEXT_HOP of 3 octets | 400303c00002 | 3 Length; none
+COMMUNITIES of no octet | c00800 | 8 Length; none
+AGGREGATOR of 6 octets | c00706fbf0c0000201 | none; 7 Length
+AGGREGATOR well-known | 400708fbf00000c0000201 | 7 Flags; none
+MED twice | 80040400000005 80040400000006 | none; 4 Twice
+MED a third time, and ORIGIN before it | 80040400000005 40010103 80040400000006 | 1 Value; 4 Twice
+the first of two in the order of the field | c00800 40010103 | 8 Length; none
+the first of two that are discarded | 40060100 c00706fbf0c0000201 | none; 6 Length
+a rest of one octet | 40010100 40 | 0 Position; none
+a rest behind a bad attribute | 40010103 4002ff | 1 Value; none
+a value that runs past the end | 40010100 c0080400 | 8 Position; none";
 
-const OF_TWO_OCTET_PEERS: &str = "AS4_PATH of no segment | c01100 | none; 17 value
-AS4_PATH well-known | 40110602010000fbf0 | 17 flags; none
-AS4_AGGREGATOR of 6 octets | c01206fbf0c0000201 | none; 18 length
-AGGREGATOR of 8 octets | c007080000fbf0c0000201 | none; 7 length";
+const OF_TWO_OCTET_PEERS: &str = "AS4_PATH of no segment | c01100 | none; 17 Value
+AS4_PATH well-known | 40110602010000fbf0 | 17 Flags; none
+AS4_AGGREGATOR of 6 octets | c01206fbf0c0000201 | none; 18 Length
+AGGREGATOR of 8 octets | c007080000fbf0c0000201 | none; 7 Length";
 
 fn in_words(alloc: Global, fault: Option<AttributeFault>) -> Result<String, AllocError> {
-    let Some(AttributeFault { kind, cause }) = fault else {
-        return String::from_str(alloc, "none");
-    };
-    let cause = match cause {
-        Cause::Flags => "flags",
-        Cause::Length => "length",
-        Cause::Value => "value",
-        Cause::Position => "position",
-        Cause::Twice => "twice",
-        Cause::Missing => "missing",
-    };
-    format!(in alloc; "{kind} {cause}")
+    match fault {
+        None => String::from_str(alloc, "none"),
+        Some(it) => format!(in alloc; "{} {:?}", it.kind, it.cause),
+    }
 }
 
 /// What is noted of a field.
@@ -57,33 +49,23 @@ fn noted(rt: &impl Abort, alloc: Global, mode: Mode, field: &str) -> Faulted {
     read(alloc, &octets, mode).expect(rt, "attributes").faulted
 }
 
-/// The two faults that are noted, in words.
-fn both_in_words(rt: &impl Abort, alloc: Global, faulted: &Faulted) -> String {
-    let withdraw = in_words(alloc, faulted.withdraw).expect(rt, "a text");
-    let discard = in_words(alloc, faulted.discard).expect(rt, "a text");
-    text_of(rt, alloc, &[withdraw.as_str(), "; ", discard.as_str()])
-}
-
 /// The two faults of a field that are noted.
 fn holds(rt: &impl Abort, alloc: Global, mode: Mode, row: &str) {
     let (_, fields) = parts(row);
     let (field, answer) = parts(fields);
     let faulted = noted(rt, alloc, mode, field);
-    let both = both_in_words(rt, alloc, &faulted);
+    let withdraw = in_words(alloc, faulted.withdraw).expect(rt, "a text");
+    let discard = in_words(alloc, faulted.discard).expect(rt, "a text");
+    let both = text_of(rt, alloc, &[withdraw.as_str(), "; ", discard.as_str()]);
     is(rt, both.as_str(), answer, row);
 }
 
 #[test]
 fn the_first_attributes_at_fault_are_noted(rt: HostRuntime) {
-    for row in ROWS.lines() {
-        holds(&rt, rt.alloc(), Mode::Four, row);
-    }
-}
-
-#[test]
-fn attributes_of_two_octet_peers_are_noted(rt: HostRuntime) {
-    for row in OF_TWO_OCTET_PEERS.lines() {
-        holds(&rt, rt.alloc(), Mode::Two, row);
+    for (mode, rows) in [(Mode::Four, ROWS), (Mode::Two, OF_TWO_OCTET_PEERS)] {
+        for row in rows.lines() {
+            holds(&rt, rt.alloc(), mode, row);
+        }
     }
 }
 
@@ -105,22 +87,13 @@ fn is_shown(rt: &impl Abort, alloc: Global, faulted: &Faulted, text: &str) {
     equals(rt, shown.as_str(), text);
 }
 
-/// What is noted of a field has this text.
-fn is_noted(rt: &impl Abort, alloc: Global, row: &str) {
-    let (field, text) = parts(row);
-    let faulted = noted(rt, alloc, Mode::Four, field);
-    is_shown(rt, alloc, &faulted, text);
-}
-
 #[test]
 fn what_is_noted_as_text(rt: HostRuntime) {
     for row in TEXTS.lines() {
-        is_noted(&rt, rt.alloc(), row);
+        let (field, text) = parts(row);
+        let faulted = noted(&rt, rt.alloc(), Mode::Four, field);
+        is_shown(&rt, rt.alloc(), &faulted, text);
     }
-}
-
-#[test]
-fn a_missing_attribute_as_text(rt: HostRuntime) {
     let missing = Faulted {
         withdraw: Some(AttributeFault {
             kind: 3,
@@ -154,19 +127,14 @@ static NAMES: [(u8, &str); 16] = [
     (32, "LARGE_COMMUNITY"),
 ];
 
-/// What the RFCs call a type, where they have it.
-fn name_of(kind: u8) -> Option<&'static str> {
-    for (number, name) in &NAMES {
-        if *number == kind {
-            return Some(name);
-        }
-    }
-    None
-}
-
 #[test]
 fn each_type_by_name(rt: HostRuntime) {
-    for kind in 0..=255 {
-        is_of(&rt, attribute_name(kind), name_of(kind), &("type", kind));
+    for (kind, name) in &NAMES {
+        is(&rt, attribute_name(*kind), Some(*name), name);
     }
+    let mut named = 0_usize;
+    for kind in 0..=255 {
+        named = named.saturating_add(usize::from(attribute_name(kind).is_some()));
+    }
+    equals(&rt, named, NAMES.len());
 }

@@ -2,7 +2,7 @@
 
 use super::{octets, put, spelt};
 use crate::common::{equals, is};
-use rs_attrs::{Attrs, Faults, Mode, read};
+use rs_attrs::{Faults, Mode, read};
 use std::alloc::Global;
 use std::process::Abort;
 
@@ -160,63 +160,26 @@ fn is_read(rt: &impl Abort, alloc: Global, mode: Mode, row: &str, fields: [&str;
     is(rt, parsed.faults, faults_by(faults), row);
 }
 
-/// Each row of a table is read as it says.
-fn are_read(rt: &impl Abort, alloc: Global, mode: Mode, table: &str) {
-    for row in table.lines() {
-        is_read(rt, alloc, mode, row, fields_of(row));
+/// The tables, of four-octet peers and then of two-octet peers.
+static TABLES: [(Mode, &str); 9] = [
+    (Mode::Four, WELL_KNOWN),
+    (Mode::Four, PATHS),
+    (Mode::Four, OPTIONAL),
+    (Mode::Four, DISCARDED),
+    (Mode::Four, AGGREGATORS),
+    (Mode::Four, UNRECOGNIZED),
+    (Mode::Four, JOINED),
+    (Mode::Two, PATHS_OF_TWO),
+    (Mode::Two, AGGREGATORS_OF_TWO),
+];
+
+#[test]
+fn fields_are_read(rt: HostRuntime) {
+    for (mode, table) in &TABLES {
+        for row in table.lines() {
+            is_read(&rt, rt.alloc(), *mode, row, fields_of(row));
+        }
     }
-}
-
-#[test]
-fn well_known_types(rt: HostRuntime) {
-    are_read(&rt, rt.alloc(), Mode::Four, WELL_KNOWN);
-}
-
-#[test]
-fn paths(rt: HostRuntime) {
-    are_read(&rt, rt.alloc(), Mode::Four, PATHS);
-}
-
-#[test]
-fn optional_types(rt: HostRuntime) {
-    are_read(&rt, rt.alloc(), Mode::Four, OPTIONAL);
-}
-
-#[test]
-fn discarded_types(rt: HostRuntime) {
-    are_read(&rt, rt.alloc(), Mode::Four, DISCARDED);
-}
-
-#[test]
-fn aggregators(rt: HostRuntime) {
-    are_read(&rt, rt.alloc(), Mode::Four, AGGREGATORS);
-}
-
-#[test]
-fn unrecognized_types_and_rests(rt: HostRuntime) {
-    are_read(&rt, rt.alloc(), Mode::Four, UNRECOGNIZED);
-}
-
-#[test]
-fn rules_that_join_types(rt: HostRuntime) {
-    are_read(&rt, rt.alloc(), Mode::Four, JOINED);
-}
-
-#[test]
-fn paths_of_two_octet_peers(rt: HostRuntime) {
-    are_read(&rt, rt.alloc(), Mode::Two, PATHS_OF_TWO);
-}
-
-#[test]
-fn aggregators_of_two_octet_peers(rt: HostRuntime) {
-    are_read(&rt, rt.alloc(), Mode::Two, AGGREGATORS_OF_TWO);
-}
-
-/// The attributes of a field without faults.
-fn faultless(rt: &impl Abort, alloc: Global, field: &[u8], mode: Mode) -> Attrs {
-    let parsed = read(alloc, field, mode).expect(rt, "attributes");
-    equals(rt, parsed.faults, faults_by(""));
-    parsed.attrs
 }
 
 /// An AS_PATH of three segments of 255 numbers, with its length in these two octets and these octets in
@@ -239,8 +202,10 @@ fn full_path(rt: &impl Abort, alloc: Global, length: [u8; 2], high: &[u8]) -> Ve
 fn a_path_of_three_full_segments(rt: HostRuntime) {
     let two = full_path(&rt, rt.alloc(), [0x06, 0x00], &[]);
     let four = full_path(&rt, rt.alloc(), [0x0b, 0xfa], &[0, 0]);
-    let of_two = faultless(&rt, rt.alloc(), &two, Mode::Two);
-    let of_four = faultless(&rt, rt.alloc(), &four, Mode::Four);
-    equals(&rt, of_four.path_len(), 765);
-    equals(&rt, of_four, of_two);
+    let of_two = read(rt.alloc(), &two, Mode::Two).expect(&rt, "attributes");
+    let of_four = read(rt.alloc(), &four, Mode::Four).expect(&rt, "attributes");
+    equals(&rt, of_two.faults, faults_by(""));
+    equals(&rt, of_four.faults, faults_by(""));
+    equals(&rt, of_four.attrs.path_len(), 765);
+    equals(&rt, of_four.attrs, of_two.attrs);
 }

@@ -3,7 +3,7 @@
 
 use super::put;
 use crate::common::{equals, is_of, say};
-use rs_attrs::{Attrs, Mode, read};
+use rs_attrs::{Mode, read};
 use std::alloc::Global;
 use std::process::Abort;
 
@@ -18,18 +18,7 @@ fn thousand(rt: &impl Abort, alloc: Global) -> Vec<u8> {
     field
 }
 
-/// Of an attribute of this type the value is an octet of 0 where it is one of the thousand; of the others there is none.
-fn is_zero_or_none(rt: &impl Abort, attrs: &Attrs, kind: u8) {
-    let is_of_them = kind >= 33 && kind < 233;
-    match attrs.get(kind) {
-        Some(attribute) => {
-            is_of(rt, is_of_them, true, &("type", kind));
-            is_of(rt, attribute.value, [0].as_slice(), &("type", kind));
-        }
-        None => is_of(rt, is_of_them, false, &("type", kind)),
-    }
-}
-
+/// The value of each of the 200 is an octet of 0, and there is no other.
 #[test]
 fn a_thousand_attributes_of_one_octet(rt: HostRuntime) {
     let field = thousand(&rt, rt.alloc());
@@ -38,6 +27,9 @@ fn a_thousand_attributes_of_one_octet(rt: HostRuntime) {
     let parsed = read(rt.alloc(), &field, Mode::Four).expect(&rt, "attributes");
     say(&rt, "room is counted to here");
     for kind in 0..=255 {
-        is_zero_or_none(&rt, &parsed.attrs, kind);
+        let value = parsed.attrs.get(kind).map(|it| it.value);
+        let want: &[u8] = &[0];
+        let is_there = kind >= 33 && kind < 233;
+        is_of(&rt, value, is_there.then_some(want), &("type", kind));
     }
 }

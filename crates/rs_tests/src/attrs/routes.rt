@@ -14,27 +14,15 @@ use std::process::Abort;
 /// Segments of an AS_PATH: the type, the count, and the number that each holds.
 type Segments<'a> = &'a [(u8, u8, u32)];
 
-/// Puts a segment.
-fn put_segment(rt: &impl Abort, value: &mut Vec<u8>, segment: &(u8, u8, u32)) {
-    let (kind, count, number) = *segment;
-    put(rt, value, &[kind, count]);
-    for _ in 0..count {
-        put(rt, value, &number.to_be_bytes());
-    }
-}
-
-/// The value of an AS_PATH of these segments.
-fn path_value(rt: &impl Abort, alloc: Global, segments: Segments<'_>) -> Vec<u8> {
-    let mut value = Vec::new(alloc);
-    for segment in segments {
-        put_segment(rt, &mut value, segment);
-    }
-    value
-}
-
 /// Attributes of an AS_PATH alone.
 fn path_of(rt: &impl Abort, alloc: Global, segments: Segments<'_>) -> Attrs {
-    let value = path_value(rt, alloc, segments);
+    let mut value = Vec::new(alloc);
+    for (kind, count, number) in segments {
+        put(rt, &mut value, &[*kind, *count]);
+        for _ in 0..*count {
+            put(rt, &mut value, &number.to_be_bytes());
+        }
+    }
     let [_, _, .., high, low] = value.len().to_be_bytes();
     let mut field = Vec::new(alloc);
     put(rt, &mut field, &[0x50, 2, high, low]);
@@ -42,128 +30,51 @@ fn path_of(rt: &impl Abort, alloc: Global, segments: Segments<'_>) -> Attrs {
     attrs_of(rt, alloc, &field)
 }
 
-/// A getter's answer.
-fn gets(rt: &impl Abort, got: Option<u32>, want: Option<u32>) {
-    equals(rt, got, want);
-}
-
-/// Whether a path has a number.
-fn has_number(rt: &impl Abort, attrs: &Attrs, number: u32, want: bool) {
-    is_of(rt, attrs.path_has(number), want, &number);
-}
-
-/// The pattern of communities with these parts.
-fn like(high: Option<u32>, low: Option<u32>) -> CommunityPattern {
-    CommunityPattern { high, low }
-}
-
-/// Whether a community like this is among them.
-fn has_like(rt: &impl Abort, attrs: &Attrs, high: Option<u32>, low: Option<u32>, want: bool) {
-    let pattern = like(high, low);
-    is_of(rt, attrs.has_community_like(&pattern), want, &pattern);
-}
-
-/// An attribute of this type is not among them.
-fn lacks(rt: &impl Abort, attrs: &Attrs, kind: u8) {
-    is_of(rt, attrs.get(kind).is_none(), true, &("type", kind));
-}
-
-/// Attributes are those of `ROUTE`.
-fn is_route(rt: &impl Abort, attrs: &Attrs) {
-    equals(rt, attrs.origin(), Some(0));
-    gets(rt, attrs.next_hop(), Some(0xc000_020b));
-    gets(rt, attrs.med(), None);
-    lacks(rt, attrs, 4);
-}
-
-/// The path is 64496.
-fn has_path(rt: &impl Abort, attrs: &Attrs) {
-    equals(rt, attrs.path_len(), 1);
-    gets(rt, attrs.origin_as(), Some(64496));
-    has_number(rt, attrs, 64496, true);
-    has_number(rt, attrs, 64497, false);
+/// Attributes are those of `ROUTE`, with this MED.
+fn is_route(rt: &impl Abort, attrs: &Attrs, med: Option<u32>) {
+    let values = (attrs.origin(), attrs.next_hop(), attrs.med());
+    equals(rt, values, (Some(0), Some(0xc000_020b), med));
+    let path = (attrs.path_len(), attrs.origin_as());
+    equals(rt, path, (1, Some(64496)));
+    let has = (attrs.path_has(64496), attrs.path_has(64497));
+    equals(rt, has, (true, false));
 }
 
 #[test]
 fn a_route_of_three_attributes(rt: HostRuntime) {
-    let attrs = attrs_of(&rt, rt.alloc(), &ROUTE);
-    is_route(&rt, &attrs);
-    has_path(&rt, &attrs);
-    has_like(&rt, &attrs, None, None, false);
+    is_route(&rt, &attrs_of(&rt, rt.alloc(), &ROUTE), None);
+    let med = b"\x80\x04\x04\x00\x00\x00\x0a";
+    is_route(&rt, &route_with(&rt, rt.alloc(), med), Some(10));
 }
 
-/// The first mandatory attribute that a field lacks.
-fn misses(rt: &impl Abort, field: &[u8], alloc: Global, missing: Option<u8>) {
-    let attrs = attrs_of(rt, alloc, field);
-    equals(rt, attrs.missing(), missing);
-    equals(rt, attrs.has_mandatory(), missing.is_none());
-}
+/// Fields, and the first mandatory attribute that each lacks.
+static MISSING: [(&[u8], Option<u8>); 5] = [
+    (&ROUTE, None),
+    (
+        &[0x40, 1, 1, 0, 0x40, 2, 6, 2, 1, 0, 0, 0xfb, 0xf0],
+        Some(3),
+    ),
+    (&[0x40, 3, 4, 192, 0, 2, 11], Some(1)),
+    (&[0x40, 1, 1, 0], Some(2)),
+    (&[], Some(1)),
+];
 
 #[test]
 fn the_first_mandatory_attribute_that_is_missing(rt: HostRuntime) {
-    let alloc = rt.alloc();
-    misses(&rt, &ROUTE, alloc, None);
-    misses(&rt, &ROUTE[..13], alloc, Some(3));
-    misses(&rt, &ROUTE[4..], alloc, Some(1));
-    misses(&rt, &ROUTE[13..], alloc, Some(1));
-    misses(&rt, &ROUTE[..4], alloc, Some(2));
-    misses(&rt, &[], alloc, Some(1));
-}
-
-#[test]
-fn the_first_med_counts(rt: HostRuntime) {
-    let attrs = route_with(
-        &rt,
-        rt.alloc(),
-        b"\x80\x04\x04\x00\x00\x00\x0a\x80\x04\x04\x00\x00\x00\x14\x40\x05\x04\x00\x00\x00\xc8",
-    );
-    gets(&rt, attrs.med(), Some(10));
-    lacks(&rt, &attrs, 5);
-}
-
-/// An optional attribute has this value; it is transitive and partial, or neither.
-fn holds(rt: &impl Abort, attrs: &Attrs, kind: u8, passes: bool, value: &[u8]) {
-    let attribute = attrs.get(kind).expect(rt, "an attribute of the type");
-    is_of(rt, attribute.optional, true, &("type", kind));
-    is_of(rt, attribute.transitive, passes, &("type", kind));
-    is_of(rt, attribute.partial, passes, &("type", kind));
-    is_of(rt, attribute.value, value, &("type", kind));
-}
-
-#[test]
-fn unknown_types_with_their_flags(rt: HostRuntime) {
-    let attrs = route_with(&rt, rt.alloc(), b"\xc0\x63\x02\xab\xcd\x80\x64\x00");
-    holds(&rt, &attrs, 99, true, b"\xab\xcd");
-    holds(&rt, &attrs, 100, false, b"");
-}
-
-/// How many octets attributes take, and how many at most with each length in two octets.
-fn takes(rt: &impl Abort, attrs: &Attrs, mode: Mode, count: usize, at_most: usize) {
-    equals(rt, size(attrs, mode), count);
-    equals(rt, size_at_most(attrs, mode), at_most);
+    for (field, missing) in &MISSING {
+        let attrs = attrs_of(&rt, rt.alloc(), field);
+        equals(&rt, attrs.missing(), *missing);
+        equals(&rt, attrs.has_mandatory(), missing.is_none());
+    }
 }
 
 #[test]
 fn sizes(rt: HostRuntime) {
     let attrs = attrs_of(&rt, rt.alloc(), &ROUTE);
-    // an octet more for each of the three
-    takes(&rt, &attrs, Mode::Four, 20, 23);
-    takes(&rt, &attrs, Mode::Two, 18, 18);
-}
-
-/// A path's length, its origin AS, and an AS that it has.
-fn path_is(
-    rt: &impl Abort,
-    attrs: &Attrs,
-    length: usize,
-    origin: Option<u32>,
-    member: Option<u32>,
-) {
-    equals(rt, attrs.path_len(), length);
-    gets(rt, attrs.origin_as(), origin);
-    has_number(rt, attrs, 23456, false);
-    if let Some(number) = member {
-        has_number(rt, attrs, number, true);
+    // an octet more for each of the three where each length has two octets
+    for (mode, count, at_most) in [(Mode::Four, 20, 23), (Mode::Two, 18, 18)] {
+        equals(&rt, size(&attrs, mode), count);
+        equals(&rt, size_at_most(&attrs, mode), at_most);
     }
 }
 
@@ -195,17 +106,16 @@ static PATHS: [Path; 7] = [
     ),
 ];
 
-/// A path is as its row says.
-fn is_path(rt: &impl Abort, alloc: Global, row: &Path) {
-    let (segments, length, origin, member) = *row;
-    let attrs = path_of(rt, alloc, segments);
-    path_is(rt, &attrs, length, origin, member);
-}
-
 #[test]
 fn paths(rt: HostRuntime) {
-    for row in &PATHS {
-        is_path(&rt, rt.alloc(), row);
+    for (segments, length, origin, member) in &PATHS {
+        let attrs = path_of(&rt, rt.alloc(), segments);
+        let found = (attrs.path_len(), attrs.origin_as());
+        equals(&rt, found, (*length, *origin));
+        is_so(&rt, !attrs.path_has(23456), "AS_TRANS");
+        if let Some(number) = member {
+            is_of(&rt, attrs.path_has(*number), true, number);
+        }
     }
 }
 
@@ -227,13 +137,12 @@ fn communities_stand_at_each_fourth_octet(rt: HostRuntime) {
     let two = b"\xc0\x08\x08\xfb\xf0\x00\x01\xfb\xf0\x00\x02";
     let attrs = route_with(&rt, rt.alloc(), two);
     for (high, low, want) in &COMMUNITIES_LIKE {
-        has_like(&rt, &attrs, *high, *low, *want);
+        let pattern = CommunityPattern {
+            high: *high,
+            low: *low,
+        };
+        is_of(&rt, attrs.has_community_like(&pattern), *want, &pattern);
     }
-}
-
-/// Whether a large community like this is among them.
-fn has_large(rt: &impl Abort, attrs: &Attrs, pattern: LargeCommunityPattern, want: bool) {
-    is_of(rt, attrs.has_large_community_like(&pattern), want, &pattern);
 }
 
 /// 64496:1:2, 4200000000:0:4294967295.
@@ -257,30 +166,20 @@ static LARGE_LIKE: [Like; 10] = [
     (Some(64497), None, None, false),
 ];
 
-/// Whether a large community as a row says is among some attributes; it isn't among others.
-fn are_large(rt: &impl Abort, attrs: &Attrs, none: &Attrs, row: &Like) {
-    let (global, first, second, want) = *row;
-    let pattern = LargeCommunityPattern {
-        global,
-        first,
-        second,
-    };
-    has_large(rt, attrs, pattern, want);
-    has_large(rt, none, pattern, false);
-}
-
-/// Each row holds of them.
-fn hold_large(rt: &impl Abort, attrs: &Attrs, none: &Attrs) {
-    for row in &LARGE_LIKE {
-        are_large(rt, attrs, none, row);
-    }
-}
-
 #[test]
 fn large_communities_stand_at_each_twelfth_octet(rt: HostRuntime) {
     let attrs = route_with(&rt, rt.alloc(), LARGE);
     let none = attrs_of(&rt, rt.alloc(), &ROUTE);
-    hold_large(&rt, &attrs, &none);
+    for (global, first, second, want) in &LARGE_LIKE {
+        let pattern = LargeCommunityPattern {
+            global: *global,
+            first: *first,
+            second: *second,
+        };
+        let found = attrs.has_large_community_like(&pattern);
+        is_of(&rt, found, *want, &pattern);
+        is_so(&rt, !none.has_large_community_like(&pattern), "none");
+    }
 }
 
 fn hash_of(attrs: &Attrs) -> u64 {
@@ -289,91 +188,66 @@ fn hash_of(attrs: &Attrs) -> u64 {
     state.finish()
 }
 
-/// Attributes that are equal are ordered and hashed so.
-fn are_equal(rt: &impl Abort, left: &Attrs, right: &Attrs) {
-    is_so(rt, left == right, "equal");
-    equals(rt, left.cmp(right), Ordering::Equal);
-    equals(rt, hash_of(left), hash_of(right));
-}
-
-/// The order of two sets of attributes is that of the other way round, reversed.
-fn is_ordered(rt: &impl Abort, left: &Attrs, right: &Attrs) {
-    let order = left.cmp(right);
-    equals(rt, order, right.cmp(left).reverse());
-    equals(rt, left.partial_cmp(right), Some(order));
-}
-
-/// Whether the route with one field behind its own is equal to that with another.
-fn compares(rt: &impl Abort, alloc: Global, left: &[u8], right: &[u8], equal: bool) {
-    let left = route_with(rt, alloc, left);
-    let right = route_with(rt, alloc, right);
+/// Attributes that are equal are ordered and hashed so, and keep one hash; of others the order is that of the other way round, reversed, and
+/// the hash that is kept is another.
+fn compares(rt: &impl Abort, left: &Attrs, right: &Attrs, equal: bool) {
     equals(rt, left == right, equal);
-    equals(rt, left.cmp(&right) == Ordering::Equal, equal);
-    is_ordered(rt, &left, &right);
+    let order = left.cmp(right);
+    equals(rt, order == Ordering::Equal, equal);
+    equals(rt, right.cmp(left), order.reverse());
+    equals(rt, left.partial_cmp(right), Some(order));
+    equals(rt, hash_of(left) == hash_of(right), equal);
+    equals(rt, left.kept_hash() == right.kept_hash(), equal);
 }
 
-#[test]
-fn equal_by_meaning(rt: HostRuntime) {
-    let alloc = rt.alloc();
-    let route = attrs_of(&rt, alloc, &ROUTE);
-    // the same in another order, with a length of two octets
-    let again = attrs_of(
-        &rt,
-        alloc,
-        b"\x50\x03\x00\x04\xc0\x00\x02\x0b\x40\x02\x06\x02\x01\x00\x00\xfb\xf0\x40\x01\x01\x00",
-    );
-    are_equal(&rt, &route, &again);
-    are_equal(&rt, &route, &route.clone().expect(&rt, "a copy"));
+/// What stands behind the attributes of two routes, and whether they are equal.
+static PAIRS: [(&[u8], &[u8], bool); 5] = [
     // the partial bit of an unknown transitive type is set in any case, that of COMMUNITIES stays
-    compares(&rt, alloc, b"\xc0\x63\x00", b"\xe0\x63\x00", true);
-    compares(
-        &rt,
-        alloc,
+    (b"\xc0\x63\x00", b"\xe0\x63\x00", true),
+    (
         b"\xc0\x08\x04\xfb\xf0\x00\x01",
         b"\xe0\x08\x04\xfb\xf0\x00\x01",
         false,
-    );
-    compares(
-        &rt,
-        alloc,
+    ),
+    (
+        b"\xc0\x08\x04\xfb\xf0\x00\x01",
+        b"\xc0\x08\x04\xfb\xf0\x00\x02",
+        false,
+    ),
+    (
         b"\x80\x04\x04\x00\x00\x00\x0a",
         b"\x80\x04\x04\x00\x00\x00\x0b",
         false,
-    );
-    compares(&rt, alloc, b"\xc0\x63\x00", b"", false);
-}
-
-/// Whether two sets of attributes keep one hash.
-fn keep_a_hash(rt: &impl Abort, left: &Attrs, right: &Attrs, one: bool) {
-    equals(rt, left.kept_hash() == right.kept_hash(), one);
-}
-
-/// The same, as they do where they are equal.
-fn keep_one(rt: &impl Abort, left: &Attrs, right: &Attrs, one: bool) {
-    equals(rt, left == right, one);
-    keep_a_hash(rt, left, right, one);
-}
+    ),
+    (b"\xc0\x63\x00", b"", false),
+];
 
 #[test]
-fn equal_attributes_keep_one_hash(rt: HostRuntime) {
+fn equal_by_meaning(rt: HostRuntime) {
+    for (left, right, equal) in &PAIRS {
+        let left = route_with(&rt, rt.alloc(), left);
+        let right = route_with(&rt, rt.alloc(), right);
+        compares(&rt, &left, &right, *equal);
+    }
+}
+
+/// The route in another order with a length of two octets, in two octets an AS number, copied, and with communities that are taken out.
+#[test]
+fn one_route_in_several_forms(rt: HostRuntime) {
     let alloc = rt.alloc();
     let route = attrs_of(&rt, alloc, &ROUTE);
-    // the same in two octets an AS number, copied, and with communities that are taken out
+    let again =
+        b"\x50\x03\x00\x04\xc0\x00\x02\x0b\x40\x02\x06\x02\x01\x00\x00\xfb\xf0\x40\x01\x01\x00";
+    compares(&rt, &route, &attrs_of(&rt, alloc, again), true);
     let two = b"\x40\x01\x01\x00\x40\x02\x04\x02\x01\xfb\xf0\x40\x03\x04\xc0\x00\x02\x0b";
     let of_two = read(alloc, two, Mode::Two).expect(&rt, "attributes");
-    keep_one(&rt, &route, &of_two.attrs, true);
-    keep_one(&rt, &route, &route.clone().expect(&rt, "a copy"), true);
+    compares(&rt, &route, &of_two.attrs, true);
+    compares(&rt, &route, &route.clone().expect(&rt, "a copy"), true);
     let strip = Strip {
         all_communities: true,
         ..NOTHING
     };
     let community = route_with(&rt, alloc, b"\xc0\x08\x04\xfb\xf0\x00\x01");
     let rest = stripped(alloc, &community, &strip).expect(&rt, "attributes");
-    keep_one(&rt, &route, &rest, true);
-    // what differs in an attribute, in a value, or in a flag
-    keep_one(&rt, &route, &community, false);
-    let another = route_with(&rt, alloc, b"\xc0\x08\x04\xfb\xf0\x00\x02");
-    keep_one(&rt, &community, &another, false);
-    let partial = route_with(&rt, alloc, b"\xe0\x08\x04\xfb\xf0\x00\x01");
-    keep_one(&rt, &community, &partial, false);
+    compares(&rt, &route, &rest, true);
 }

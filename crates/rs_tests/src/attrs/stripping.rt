@@ -22,7 +22,7 @@ const WITHOUT_1_2: &[u8] =
 const WITHOUT_LARGE: &[u8] =
     b"\xe0\x08\x0c\xfb\xf0\x00\x01\xfb\xf0\x00\x02\xfb\xf0\x00\x01\xc0\x63\x02\xab\xcd";
 
-static WITHOUT_ANY: &[u8] = b"\xc0\x63\x02\xab\xcd";
+const WITHOUT_ANY: &[u8] = b"\xc0\x63\x02\xab\xcd";
 
 pub(super) const NOTHING: Strip<'static> = Strip {
     communities: [&[], &[]],
@@ -76,90 +76,122 @@ const L_2_ANY: LargeCommunityPattern = LargeCommunityPattern {
     second: None,
 };
 
-/// A strip says whether what it leaves of attributes is less.
-fn is_less(rt: &impl Abort, strip: &Strip<'_>, attrs: &Attrs, left: &Attrs) {
-    is_of(rt, strip.changes(attrs), left != attrs, strip);
-}
+/// What is stripped, and what is left of the communities sent.
+static STRIPPED: [(Strip<'static>, &[u8]); 13] = [
+    (NOTHING, SENT),
+    (
+        Strip {
+            communities: [&[C_3], &[C_3]],
+            ..NOTHING
+        },
+        SENT,
+    ),
+    (
+        Strip {
+            communities: [&[C_1], &[]],
+            ..NOTHING
+        },
+        WITHOUT_1,
+    ),
+    (
+        Strip {
+            communities: [&[], &[C_3, C_1]],
+            ..NOTHING
+        },
+        WITHOUT_1,
+    ),
+    (
+        Strip {
+            communities: [&[C_2], &[C_1]],
+            ..NOTHING
+        },
+        WITHOUT_COMMUNITIES,
+    ),
+    (
+        Strip {
+            communities: [&[C_ANY], &[]],
+            ..NOTHING
+        },
+        WITHOUT_COMMUNITIES,
+    ),
+    (
+        Strip {
+            communities: [&[C_3], &[]],
+            all_communities: true,
+            ..NOTHING
+        },
+        WITHOUT_COMMUNITIES,
+    ),
+    (
+        Strip {
+            large: [&[L_2_ANY], &[]],
+            ..NOTHING
+        },
+        SENT,
+    ),
+    (
+        Strip {
+            large: [&[L_1_2], &[]],
+            ..NOTHING
+        },
+        WITHOUT_1_2,
+    ),
+    (
+        Strip {
+            large: [&[], &[L_2_ANY, L_1_2]],
+            ..NOTHING
+        },
+        WITHOUT_1_2,
+    ),
+    (
+        Strip {
+            large: [&[L_2_ANY], &[L_1_ANY]],
+            ..NOTHING
+        },
+        WITHOUT_LARGE,
+    ),
+    (
+        Strip {
+            all_large: true,
+            ..NOTHING
+        },
+        WITHOUT_LARGE,
+    ),
+    (
+        Strip {
+            communities: [&[C_1], &[C_2]],
+            large: [&[L_1_ANY], &[]],
+            ..NOTHING
+        },
+        WITHOUT_ANY,
+    ),
+];
 
 /// A strip leaves just this of attributes, and says whether that is less.
 fn leaves(rt: &impl Abort, alloc: Global, strip: &Strip<'_>, attrs: &Attrs, left: &Attrs) {
-    is_less(rt, strip, attrs, left);
+    is_of(rt, strip.changes(attrs), left != attrs, strip);
     let outcome = stripped(alloc, attrs, strip).expect(rt, "attributes");
     is_of(rt, &outcome, left, strip);
 }
 
-/// What is left of the communities sent; a route without any is left as it is.
-fn strips(rt: &impl Abort, alloc: Global, strip: &Strip<'_>, left: &[u8]) {
-    let sent = route_with(rt, alloc, SENT);
-    let left = route_with(rt, alloc, left);
-    leaves(rt, alloc, strip, &sent, &left);
-    let route = attrs_of(rt, alloc, &ROUTE);
-    leaves(rt, alloc, strip, &route, &route);
-}
-
-/// What is stripped, by two lists or all, and what is left.
-type Stripped<T> = ([&'static [T]; 2], bool, &'static [u8]);
-
-/// Rows of COMMUNITIES.
-static COMMUNITIES_STRIPPED: [Stripped<CommunityPattern>; 7] = [
-    ([&[], &[]], false, SENT),
-    ([&[C_3], &[C_3]], false, SENT),
-    ([&[C_1], &[]], false, WITHOUT_1),
-    ([&[], &[C_3, C_1]], false, WITHOUT_1),
-    ([&[C_2], &[C_1]], false, WITHOUT_COMMUNITIES),
-    ([&[C_ANY], &[]], false, WITHOUT_COMMUNITIES),
-    ([&[C_3], &[]], true, WITHOUT_COMMUNITIES),
-];
-
-fn strips_some(rt: &impl Abort, alloc: Global, row: &Stripped<CommunityPattern>) {
-    let (communities, all_communities, left) = *row;
-    let strip = Strip {
-        communities,
-        all_communities,
-        ..NOTHING
-    };
-    strips(rt, alloc, &strip, left);
-}
-
+/// A route without any communities is left as it is.
 #[test]
 fn strips_communities(rt: HostRuntime) {
-    for row in &COMMUNITIES_STRIPPED {
-        strips_some(&rt, rt.alloc(), row);
+    let sent = route_with(&rt, rt.alloc(), SENT);
+    let route = attrs_of(&rt, rt.alloc(), &ROUTE);
+    for (strip, left) in &STRIPPED {
+        let left = route_with(&rt, rt.alloc(), left);
+        leaves(&rt, rt.alloc(), strip, &sent, &left);
+        leaves(&rt, rt.alloc(), strip, &route, &route);
     }
 }
 
-/// Rows of LARGE_COMMUNITY.
-static LARGE_STRIPPED: [Stripped<LargeCommunityPattern>; 5] = [
-    ([&[L_2_ANY], &[]], false, SENT),
-    ([&[L_1_2], &[]], false, WITHOUT_1_2),
-    ([&[], &[L_2_ANY, L_1_2]], false, WITHOUT_1_2),
-    ([&[L_2_ANY], &[L_1_ANY]], false, WITHOUT_LARGE),
-    ([&[], &[]], true, WITHOUT_LARGE),
-];
-
-fn strips_some_large(rt: &impl Abort, alloc: Global, row: &Stripped<LargeCommunityPattern>) {
-    let (large, all_large, left) = *row;
-    let strip = Strip {
-        large,
-        all_large,
-        ..NOTHING
-    };
-    strips(rt, alloc, &strip, left);
-}
-
+/// Of these strips each is the same as itself, and as no other.
 #[test]
-fn strips_large_communities(rt: HostRuntime) {
-    for row in &LARGE_STRIPPED {
-        strips_some_large(&rt, rt.alloc(), row);
+fn strips_by_the_same_patterns(rt: HostRuntime) {
+    for (place, (strip, _)) in STRIPPED.iter().enumerate() {
+        for (at, (other, _)) in STRIPPED.iter().enumerate() {
+            is_of(&rt, strip.is_same(other), place == at, &(place, at));
+        }
     }
-}
-
-#[test]
-fn strips_both(rt: HostRuntime) {
-    let strip = Strip {
-        communities: [&[C_1], &[C_2]],
-        large: [&[L_1_ANY], &[]],
-        ..NOTHING
-    };
-    strips(&rt, rt.alloc(), &strip, WITHOUT_ANY);
 }
