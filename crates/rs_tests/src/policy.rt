@@ -8,7 +8,7 @@ mod faults;
 mod routes;
 mod shared;
 
-use crate::common::{equals, is_of, text_of};
+use crate::common::{equals, is_of, is_so, text_of};
 use rs_policy::*;
 use std::alloc::Global;
 use std::process::Abort;
@@ -21,16 +21,11 @@ const CLIENT: &str =
 const OTHER: &str =
     "[[client]]\nname = \"b\"\nas = 64497\nlisten = \"127.0.0.1:17902\"\npeer = \"192.0.2.12\"\n";
 
-/// The configuration that a good text spells.
-fn read(rt: &impl Abort, alloc: Global, text: &str) -> Config {
-    Config::read(alloc, text).expect(rt, "a configuration")
-}
-
 /// Lets a configuration go in one call, which is one step of a test, and not one for each of its lists.
 fn let_go(_config: Config) {}
 
 /// The configuration that these parts of a good text spell.
 fn read_parts(rt: &impl Abort, alloc: Global, parts: &[&str]) -> Config {
     let text = text_of(rt, alloc, parts);
-    read(rt, alloc, text.as_str())
+    Config::read(alloc, text.as_str()).expect(rt, "a configuration")
 }

@@ -1,8 +1,6 @@
 //! Reasons worked out by hand from a configuration's rules.
 
 use crate::common::{ROUTE, attrs, equals, prefix, text_of};
-use rs_attrs::Attrs;
-use rs_octets::Prefix;
 use rs_policy::Config;
 use rs_reasons::explain;
 use std::alloc::Global;
@@ -113,60 +111,53 @@ fn is_said(
     rt: &impl Abort,
     alloc: Global,
     config: &Config,
-    ends: (usize, usize),
-    route: (Prefix, &Attrs),
-    want: &str,
+    (from, to): (usize, usize),
+    (bits, len, octets, want): Reasons,
 ) {
-    let (from, to) = ends;
-    let (prefix, attrs) = route;
-    assert!(rt; from < config.clients() && to < config.clients());
-    let answer = explain(config, from, to, &prefix, attrs);
-    let text = format!(in alloc; "{answer}").expect(rt, "a text");
-    equals(rt, text.as_str(), want);
-}
-
-/// A row's route has its reasons.
-fn is_told(rt: &impl Abort, alloc: Global, config: &Config, row: &Reasons) {
-    let (bits, len, octets, want) = *row;
     let prefix = prefix(rt, bits, len);
     let attrs = attrs(rt, alloc, octets);
-    is_said(rt, alloc, config, (0, 1), (prefix, &attrs), want);
-}
-
-/// Each row's has.
-fn are_told(rt: &impl Abort, alloc: Global, config: &Config) {
-    for row in &REASONS {
-        is_told(rt, alloc, config, row);
-    }
+    assert!(rt; from < config.clients() && to < config.clients());
+    let answer = explain(config, from, to, &prefix, &attrs);
+    let text = format!(in alloc; "{answer}").expect(rt, "a text");
+    equals(rt, text.as_str(), want);
 }
 
 #[test]
 fn each_list_tells_its_rule(rt: HostRuntime) {
     let config = Config::read(rt.alloc(), CONFIG).expect(&rt, "a configuration");
-    are_told(&rt, rt.alloc(), &config);
+    for row in &REASONS {
+        is_said(&rt, rt.alloc(), &config, (0, 1), *row);
+    }
 }
 
-/// Beta's own routes go by no import rule, and where the default drops, by that.
+/// Where the default drops, between two clients.
+static BY_DEFAULT: [((usize, usize), Reasons); 2] = [
+    // beta's own routes go by no import rule
+    (
+        (1, 0),
+        (
+            0xcb00_7100,
+            24,
+            &ROUTE,
+            "no import rule of beta matches: drop",
+        ),
+    ),
+    (
+        (0, 1),
+        (
+            0xcb00_7100,
+            24,
+            &ROUTE,
+            "import rule 1 of alpha: pass; no export rule of beta matches: drop",
+        ),
+    ),
+];
+
 #[test]
 fn the_default_is_told(rt: HostRuntime) {
     let text = text_of(&rt, rt.alloc(), &["default = \"drop\"\n", CONFIG]);
     let config = Config::read(rt.alloc(), text.as_str()).expect(&rt, "a configuration");
-    let attrs = attrs(&rt, rt.alloc(), &ROUTE);
-    let prefix = prefix(&rt, 0xcb00_7100, 24);
-    is_said(
-        &rt,
-        rt.alloc(),
-        &config,
-        (1, 0),
-        (prefix, &attrs),
-        "no import rule of beta matches: drop",
-    );
-    is_said(
-        &rt,
-        rt.alloc(),
-        &config,
-        (0, 1),
-        (prefix, &attrs),
-        "import rule 1 of alpha: pass; no export rule of beta matches: drop",
-    );
+    for (ends, row) in &BY_DEFAULT {
+        is_said(&rt, rt.alloc(), &config, *ends, *row);
+    }
 }

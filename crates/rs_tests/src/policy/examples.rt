@@ -170,109 +170,68 @@ prefixes = []
 ases = [65551]
 "#;
 
-/// A client of this name stands at this place, or none does.
-fn is_found(rt: &impl Abort, config: &Config, name: &str, place: Option<usize>) {
-    equals(rt, config.place(name), place);
-}
-
-#[test]
-fn clients_are_found_by_their_names(rt: HostRuntime) {
-    let config = read(&rt, rt.alloc(), FOUR_MEMBERS);
-    is_found(&rt, &config, "a", Some(0));
-    is_found(&rt, &config, "d", Some(3));
-    is_found(&rt, &config, "e", None);
-    is_found(&rt, &config, "", None);
-    let_go(config);
-}
-
-/// The server's AS number is 64500, its BGP Identifier 192.0.2.1 and its Hold Time 90.
-fn is_the_server(rt: &impl Abort, config: &Config) {
-    equals(rt, config.server_as(), 64500);
-    equals(rt, config.identifier(), 0xc000_0201);
-    equals(rt, config.hold(), 90);
-}
-
-/// The server speaks of long messages, of route refresh and of address families, or does not.
-fn speaks_of(rt: &impl Abort, config: &Config, extended: bool, refresh: bool, families: bool) {
-    equals(rt, config.extended(), extended);
-    equals(rt, config.refresh(), refresh);
-    equals(rt, config.multiprotocol(), families);
-}
-
-/// A client has this name.
-fn is_named(rt: &impl Abort, config: &Config, client: usize, name: &str) {
+/// What is asked for in the name, the AS number, the two addresses with the port between them, and the limit of a client.
+fn client_line(rt: &impl Abort, alloc: Global, config: &Config, client: usize) -> String {
     assert!(rt; client < config.clients());
-    equals(rt, config.name(client), name);
+    let name = config.name(client);
+    equals(rt, config.place(name), Some(client));
+    let (listen, port) = config.listen(client);
+    format!(in alloc;
+        "{name} {} {listen:x} {port} {:x} {:?}; ",
+        config.client_as(client),
+        config.peer(client),
+        config.limit(client)
+    )
+    .expect(rt, "a text")
 }
 
-/// A client is of this AS.
-fn is_in_as(rt: &impl Abort, config: &Config, client: usize, number: u32) {
-    assert!(rt; client < config.clients());
-    equals(rt, config.client_as(client), number);
+/// What a configuration says of the server, and then of each client.
+fn shown(rt: &impl Abort, alloc: Global, config: &Config) -> String {
+    let mut text = format!(in alloc;
+        "{} {:x} {} {} {} {}; ",
+        config.server_as(),
+        config.identifier(),
+        config.hold(),
+        config.extended(),
+        config.refresh(),
+        config.multiprotocol()
+    )
+    .expect(rt, "a text");
+    for client in 0..config.clients() {
+        let line = client_line(rt, alloc, config, client);
+        text.push_str(line.as_str()).expect(rt, "a text");
+    }
+    text
 }
 
-/// The server listens for a client at this address and port, to which the client comes from its own.
-fn is_reached(rt: &impl Abort, config: &Config, client: usize, listen: (u32, u16), peer: u32) {
-    assert!(rt; client < config.clients());
-    equals(rt, config.listen(client), listen);
-    equals(rt, config.peer(client), peer);
-}
-
-/// A client may announce so many prefixes, or any number.
-fn is_limited(rt: &impl Abort, config: &Config, client: usize, limit: Option<u32>) {
-    assert!(rt; client < config.clients());
-    equals(rt, config.limit(client), limit);
-}
-
-/// The clients of the first example, with their names and their ASes.
-static MEMBERS: [(usize, &str, u32); 4] = [
-    (0, "a", 64496),
-    (1, "b", 64497),
-    (2, "c", 64498),
-    (3, "d", 64499),
+/// The examples in their parts; of each what it says: AS number, BGP Identifier and Hold Time of the server, whether it speaks of long
+/// messages, of route refresh and of address families, and then its clients.
+static EXAMPLES: [(&[&str], &str); 3] = [
+    (
+        &[FOUR_MEMBERS],
+        "64500 c0000201 90 false false false; \
+         a 64496 7f000001 17901 c000020b None; b 64497 7f000001 17902 c000020c None; \
+         c 64498 7f000001 17903 c000020d None; d 64499 7f000001 17904 c000020e None; ",
+    ),
+    (
+        &[SMALL],
+        "64500 c0000201 90 false false true; \
+         alpha 64496 7f000001 17901 7f000001 None; beta 64497 7f000001 17902 7f000001 None; ",
+    ),
+    (
+        &[EXCHANGE, EXCHANGE_LISTS],
+        "64500 c0000201 90 true true true; \
+         alpha 64496 c0000201 179 c000020b Some(20000); beta 64497 c0000201 179 c000020c Some(20000); \
+         gamma 65551 c0000201 179 c000020d Some(20000); ",
+    ),
 ];
 
-/// A client is as its row says.
-fn is_member(rt: &impl Abort, config: &Config, row: &(usize, &str, u32)) {
-    let (client, name, number) = *row;
-    is_named(rt, config, client, name);
-    is_in_as(rt, config, client, number);
-}
-
 #[test]
-fn the_four_members_are_read(rt: HostRuntime) {
-    let config = read(&rt, rt.alloc(), FOUR_MEMBERS);
-    equals(&rt, config.clients(), 4);
-    is_the_server(&rt, &config);
-    speaks_of(&rt, &config, false, false, false);
-    for row in &MEMBERS {
-        is_member(&rt, &config, row);
+fn the_examples_are_read(rt: HostRuntime) {
+    for (parts, want) in &EXAMPLES {
+        let config = read_parts(&rt, rt.alloc(), parts);
+        equals(&rt, shown(&rt, rt.alloc(), &config).as_str(), *want);
+        is_so(&rt, config.place("e").is_none(), "no client e");
+        let_go(config);
     }
-    is_reached(&rt, &config, 3, (0x7f00_0001, 17904), 0xc000_020e);
-    let_go(config);
-}
-
-#[test]
-fn the_small_example_is_read(rt: HostRuntime) {
-    let config = read(&rt, rt.alloc(), SMALL);
-    equals(&rt, config.clients(), 2);
-    is_the_server(&rt, &config);
-    speaks_of(&rt, &config, false, false, true);
-    is_named(&rt, &config, 0, "alpha");
-    is_named(&rt, &config, 1, "beta");
-    is_in_as(&rt, &config, 1, 64497);
-    is_reached(&rt, &config, 1, (0x7f00_0001, 17902), 0x7f00_0001);
-    is_limited(&rt, &config, 1, None);
-    let_go(config);
-}
-
-#[test]
-fn the_exchange_example_is_read(rt: HostRuntime) {
-    let config = read_parts(&rt, rt.alloc(), &[EXCHANGE, EXCHANGE_LISTS]);
-    equals(&rt, config.clients(), 3);
-    speaks_of(&rt, &config, true, true, true);
-    is_named(&rt, &config, 2, "gamma");
-    is_reached(&rt, &config, 2, (0xc000_0201, 179), 0xc000_020d);
-    is_limited(&rt, &config, 2, Some(20000));
-    let_go(config);
 }

@@ -3,8 +3,6 @@
 use super::*;
 use crate::common::{ROUTE, attrs, prefix};
 use rs_attrs::{Attrs, CommunityPattern, Strip};
-use rs_octets::Prefix;
-use std::process::Abort;
 
 /// `ROUTE` with the communities 64500:1 and 64500:2.
 static COLOURED: &[u8] = &[
@@ -13,7 +11,7 @@ static COLOURED: &[u8] = &[
 ];
 
 /// A configuration of a and b with this at its top, in a's import list and in b's export list.
-pub(super) fn config(rt: &impl Abort, alloc: Global, rules: (&str, &str, &str)) -> Config {
+fn config(rt: &impl Abort, alloc: Global, rules: (&str, &str, &str)) -> Config {
     let (top, import, export) = rules;
     let parts = [
         TOP,
@@ -30,76 +28,38 @@ pub(super) fn config(rt: &impl Abort, alloc: Global, rules: (&str, &str, &str)) 
     read_parts(rt, alloc, &parts)
 }
 
-/// The preference with which a route is passed.
-fn preference_of(verdict: &Verdict<'_>) -> Option<u32> {
+/// The preference with which a route is passed, and what is taken away.
+fn passed<'a>(verdict: &Verdict<'a>) -> Option<(u32, Strip<'a>)> {
     match verdict {
         Verdict::Drop => None,
-        Verdict::Pass { preference, .. } => Some(*preference),
+        Verdict::Pass { preference, strip } => Some((*preference, *strip)),
     }
 }
 
-/// A route of a, which may go to b.
-#[derive(Drop)]
-pub(super) struct Route {
-    pub(super) prefix: Prefix,
-    pub(super) attrs: Attrs,
+/// What the rules make of 198.51.100.0/24 with these attributes on its way from a to b; they pass it with the same preference where the
+/// import list was asked before.
+fn judged<'a>(rt: &impl Abort, config: &'a Config, attrs: &Attrs) -> Option<(u32, Strip<'a>)> {
+    assert!(rt; config.clients() == 2);
+    let prefix = prefix(rt, 0xc633_6400, 24);
+    let note = import_note(config, 0, &prefix, attrs);
+    let found = passed(&judge_noted(config, 0, 1, &prefix, attrs, note));
+    let alone = passed(&judge(config, 0, 1, &prefix, attrs));
+    equals(rt, alone.map(|it| it.0), found.map(|it| it.0));
+    found
 }
 
-impl Route {
-    /// 198.51.100.0/24 with attributes that are spelt so.
-    pub(super) fn spelt(rt: &impl Abort, alloc: Global, octets: &[u8]) -> Route {
-        let prefix = prefix(rt, 0xc633_6400, 24);
-        let attrs = attrs(rt, alloc, octets);
-        Route { prefix, attrs }
-    }
-
-    /// Lets it go in one call.
-    pub(super) fn let_go(self) {}
-
-    /// What the rules make of it on its way to b.
-    fn judged<'a>(&self, rt: &impl Abort, config: &'a Config) -> Verdict<'a> {
-        assert_eq!(rt; config.clients(), 2);
-        judge(config, 0, 1, &self.prefix, &self.attrs)
-    }
-
-    /// The same, where the import list was asked before.
-    fn judged_by_note<'a>(&self, rt: &impl Abort, config: &'a Config) -> Verdict<'a> {
-        assert_eq!(rt; config.clients(), 2);
-        let note = import_note(config, 0, &self.prefix, &self.attrs);
-        judge_noted(config, 0, 1, &self.prefix, &self.attrs, note)
-    }
-
-    /// The preference with which it goes to b, or None where it is dropped.
-    pub(super) fn preference(&self, rt: &impl Abort, config: &Config) -> Option<u32> {
-        let found = preference_of(&self.judged(rt, config));
-        equals(rt, preference_of(&self.judged_by_note(rt, config)), found);
-        found
-    }
-
-    /// The preference with which it goes to b, and what is taken away, where it isn't dropped.
-    pub(super) fn passed<'a>(&self, rt: &impl Abort, config: &'a Config) -> (u32, Strip<'a>) {
-        let passed = match self.judged_by_note(rt, config) {
-            Verdict::Drop => None,
-            Verdict::Pass { preference, strip } => Some((preference, strip)),
-        };
-        let passed = passed.expect(rt, "a route that goes to b");
-        equals(rt, preference_of(&self.judged(rt, config)), Some(passed.0));
-        passed
-    }
-
-    /// By these rules it goes to b with this preference, or not at all.
-    pub(super) fn goes(
-        &self,
-        rt: &impl Abort,
-        alloc: Global,
-        rules: (&str, &str, &str),
-        want: Option<u32>,
-    ) {
-        let config = config(rt, alloc, rules);
-        let found = self.preference(rt, &config);
-        is_of(rt, found, want, &rules);
-        let_go(config);
-    }
+/// By these rules a route of a goes to b with this preference, or not at all.
+pub(super) fn goes(
+    rt: &impl Abort,
+    alloc: Global,
+    attrs: &Attrs,
+    rules: (&str, &str, &str),
+    want: Option<u32>,
+) {
+    let config = config(rt, alloc, rules);
+    let found = judged(rt, &config, attrs).map(|it| it.0);
+    is_of(rt, found, want, &rules);
+    let_go(config);
 }
 
 /// Import and export rules, each pair with the preference of the route.
@@ -175,48 +135,15 @@ static DEFAULTS: [(&str, &str, &str, Option<u32>); 7] = [
     ("", "", "{ action = \"drop\" }", None),
 ];
 
-#[test]
-fn without_rules_the_default_decides(rt: HostRuntime) {
-    let route = Route::spelt(&rt, rt.alloc(), &ROUTE);
-    for (top, import, export, want) in &DEFAULTS {
-        route.goes(&rt, rt.alloc(), (top, import, export), *want);
-    }
-    route.let_go();
-}
-
+/// Without rules the default decides, and else the first rule that matches.
 #[test]
 fn the_first_rule_that_matches_decides(rt: HostRuntime) {
-    let route = Route::spelt(&rt, rt.alloc(), &ROUTE);
+    let route = attrs(&rt, rt.alloc(), &ROUTE);
+    for (top, import, export, want) in &DEFAULTS {
+        goes(&rt, rt.alloc(), &route, (top, import, export), *want);
+    }
     for (import, export, want) in &LISTS {
-        route.goes(&rt, rt.alloc(), ("", import, export), *want);
-    }
-    route.let_go();
-}
-
-impl Route {
-    /// By these rules it goes with this preference, and these communities are taken away by each list.
-    fn loses(
-        &self,
-        rt: &impl Abort,
-        config: &Config,
-        preference: u32,
-        lists: [&[CommunityPattern]; 2],
-    ) {
-        let (found, strip) = self.passed(rt, config);
-        equals(rt, found, preference);
-        let [sender, receiver] = strip.communities;
-        equals(rt, sender, lists[0]);
-        equals(rt, receiver, lists[1]);
-        equals(rt, (strip.all_communities, strip.all_large), (false, false));
-    }
-
-    /// By these rules it goes with preference 100, and all communities are taken away, but not all large ones.
-    fn loses_all(&self, rt: &impl Abort, alloc: Global, import: &str, export: &str) {
-        let config = config(rt, alloc, ("", import, export));
-        let (preference, strip) = self.passed(rt, &config);
-        equals(rt, preference, 100);
-        equals(rt, (strip.all_communities, strip.all_large), (true, false));
-        let_go(config);
+        goes(&rt, rt.alloc(), &route, ("", import, export), *want);
     }
 }
 
@@ -238,19 +165,39 @@ const OTHERS: CommunityPattern = CommunityPattern {
     low: None,
 };
 
+/// What the import and the export rules below take away together.
+static OF_BOTH: Strip<'static> = Strip {
+    communities: [&[ONE], &[TWO, OTHERS]],
+    all_communities: false,
+    large: [&[], &[]],
+    all_large: false,
+};
+
+/// By these rules the coloured route goes with this preference, and all communities are taken away, but not all large ones; or by the lists
+/// above.
+fn loses(
+    rt: &impl Abort,
+    alloc: Global,
+    rules: (&str, &str, &str),
+    (preference, all): (u32, bool),
+) {
+    let config = config(rt, alloc, rules);
+    let coloured = attrs(rt, alloc, COLOURED);
+    let (found, strip) = judged(rt, &config, &coloured).expect(rt, "a route that goes to b");
+    equals(rt, found, preference);
+    equals(rt, (strip.all_communities, strip.all_large), (all, false));
+    equals(rt, strip.is_same(&OF_BOTH), !all);
+    let_go(config);
+}
+
 #[test]
 fn both_rules_take_communities_away(rt: HostRuntime) {
-    let route = Route::spelt(&rt, rt.alloc(), COLOURED);
     // the export rule sees the community that the import rule takes away
     let import = "{ action = \"pass\", strip = [\"64500:1\"] }";
     let export =
         "{ community = \"64500:1\", action = \"pass\", strip = [\"64500:2\", \"1:*\"], preference = 7 }";
-    let strips = config(&rt, rt.alloc(), ("", import, export));
-    route.loses(&rt, &strips, 7, [&[ONE], &[TWO, OTHERS]]);
-    let_go(strips);
-    let one_list = "{ action = \"pass\", strip = [\"64500:2\"] }";
+    loses(&rt, rt.alloc(), ("", import, export), (7, false));
     let all = "{ action = \"pass\", strip = \"all\" }";
-    route.loses_all(&rt, rt.alloc(), all, one_list);
-    route.loses_all(&rt, rt.alloc(), one_list, all);
-    route.let_go();
+    loses(&rt, rt.alloc(), ("", all, import), (100, true));
+    loses(&rt, rt.alloc(), ("", import, all), (100, true));
 }

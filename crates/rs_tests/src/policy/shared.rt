@@ -1,8 +1,8 @@
 //! Rules that others use: what they make of a route.
 
-use super::routes::Route;
+use super::routes::goes;
 use super::*;
-use crate::common::ROUTE;
+use crate::common::{ROUTE, attrs};
 
 /// The rules of `r` and the tables of a list, each pair with the preference of a route from 64496.
 static WRITTEN_OUT: [(&str, &str, Option<u32>); 8] = [
@@ -46,25 +46,13 @@ static WRITTEN_OUT: [(&str, &str, Option<u32>); 8] = [
 const BEFORE: &str =
     "[[rules]]\nname = \"q\"\nrules = [{ action = \"drop\" }]\n[[rules]]\nname = \"r\"\nrules = [";
 
-/// These rules, from the import list and from the export list, pass the route with this preference or drop it.
-fn goes_by_use(
-    rt: &impl Abort,
-    alloc: Global,
-    route: &Route,
-    rules: &str,
-    list: &str,
-    want: Option<u32>,
-) {
-    let shared = text_of(rt, alloc, &[BEFORE, rules, "]\n"]);
-    route.goes(rt, alloc, (shared.as_str(), list, ""), want);
-    route.goes(rt, alloc, (shared.as_str(), "", list), want);
-}
-
+/// The rules pass the route with this preference or drop it, from the import list and from the export list.
 #[test]
 fn rules_are_written_out_where_they_are_used(rt: HostRuntime) {
-    let route = Route::spelt(&rt, rt.alloc(), &ROUTE);
+    let route = attrs(&rt, rt.alloc(), &ROUTE);
     for (rules, list, want) in &WRITTEN_OUT {
-        goes_by_use(&rt, rt.alloc(), &route, rules, list, *want);
+        let shared = text_of(&rt, rt.alloc(), &[BEFORE, rules, "]\n"]);
+        goes(&rt, rt.alloc(), &route, (shared.as_str(), list, ""), *want);
+        goes(&rt, rt.alloc(), &route, (shared.as_str(), "", list), *want);
     }
-    route.let_go();
 }
