@@ -2,7 +2,7 @@
 //! `tools/plays/without_memory.py` runs this test once for each request for memory, and refuses that
 //! one.
 
-use super::{CLIENT, Exchange, all, drain, let_go, prefix, some};
+use super::{Exchange, SENDER, all, drain, let_go, prefix, some};
 use crate::common::{equals, is_so, push, say};
 use rs_octets::Prefix;
 use rs_outlet::{Last, Outlet};
@@ -15,20 +15,22 @@ const NOW: u32 = 900;
 
 /// The sender withdraws 50 prefixes from this one on.
 fn withdraw(rt: &impl Abort, exchange: &mut Exchange, first: u32) {
+    assert!(rt; SENDER < exchange.tables.clients());
     for n in first..first.saturating_add(50) {
-        is_so(rt, exchange.withdraw(rt, prefix(rt, n)), "it was announced");
+        let was_there = exchange.tables.withdraw(SENDER, prefix(rt, n));
+        is_so(rt, was_there, "it was announced");
     }
 }
 
 /// An outlet that told some of what was due at its first turn; the rest waits. 500 prefixes are
 /// touched: some were withdrawn since, some are due as before, and some are new.
 fn half_told(rt: &impl Abort, before: &Exchange, now: &Exchange) -> Outlet {
-    let mut outlet = before.outlet(rt, CLIENT);
+    let mut outlet = before.outlet(rt);
     before.decides(rt, &mut outlet, all(600));
     outlet.begin(&before.tables);
     outlet.took(outlet.lent().len());
     outlet.begin(&before.tables);
-    now.touch(rt, &mut outlet, BEFORE - 200, 500);
+    now.touch(rt, &mut outlet, BEFORE - 200..BEFORE + 300, 1);
     outlet
 }
 
@@ -39,21 +41,6 @@ fn listed(rt: &impl Abort, exchange: &Exchange, outlet: &Outlet) -> Vec<Prefix> 
         push(rt, &mut prefixes, prefix);
     }
     prefixes
-}
-
-/// A refused turn is the last one of an outlet with these routes, and what is in flight is what
-/// another one has in flight.
-fn is_refused(
-    rt: &impl Abort,
-    exchange: &Exchange,
-    outlet: &Outlet,
-    other: &Outlet,
-    before: &[Prefix],
-) {
-    equals(rt, outlet.last(), Last::Refused);
-    let now = listed(rt, exchange, outlet);
-    equals(rt, now.as_slice(), before);
-    equals(rt, outlet.lent(), other.lent());
 }
 
 /// Two outlets have answered the same, and have and tell the same routes.
@@ -78,7 +65,9 @@ fn a_refused_turn_changes_nothing_but_last(rt: HostRuntime) {
     now.decides(&rt, &mut other, some(500));
     if now.turn(&rt, &mut outlet).is_err() {
         say(&rt, "memory was refused to a turn");
-        is_refused(&rt, &now, &outlet, &other, &routes);
+        equals(&rt, outlet.last(), Last::Refused);
+        equals(&rt, listed(&rt, &now, &outlet), routes);
+        equals(&rt, outlet.lent(), other.lent());
         now.decides(&rt, &mut outlet, some(500));
     }
     are_alike(&rt, &now, &mut outlet, &mut other);
