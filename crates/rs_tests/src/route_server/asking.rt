@@ -28,7 +28,7 @@ fn update(rt: &impl Abort, alloc: Global, third: u8) -> Vec<u8> {
 fn announce(rt: &impl Abort, exchange: &mut Exchange, third: u8) {
     let octets = update(rt, exchange.alloc, third);
     exchange.hear_octets(rt, A, &octets);
-    exchange.turn();
+    exchange.core.turn();
 }
 
 /// A client's link takes all that it is lent next.

@@ -1,6 +1,6 @@
 //! An exchange of members a and b, AS 64496 and 64497, beside the server's AS 64500.
 
-use crate::common::{is_of, is_so, push, put, text_of};
+use crate::common::{self, is_of, is_so, put, text_of};
 use rs_core::Core;
 use rs_policy::Config;
 use rs_session::Command;
@@ -38,37 +38,19 @@ pub const IPV6_ROUTE: &str =
 /// 203.0.113.0/24 of b.
 pub const ROUTE_B: &str = "002f02000000144001010040020602010000fbf1400304c000020c18cb0071";
 
-/// The octet that two hexadecimal digits spell.
-fn octet(pair: &[u8]) -> u8 {
-    let mut octet = 0u32;
-    for digit in pair {
-        octet = octet % 16 * 16 + char::from(*digit).to_digit(16).unwrap_or(0) % 16;
-    }
-    (octet % 256) as u8
-}
-
-/// Puts the octets that these hexadecimal digits spell, behind a marker (RFC 4271, 4.1).
-fn put_message(rt: &impl Abort, octets: &mut Vec<u8>, digits: &str) {
-    put(rt, octets, &[0xff; 16]);
-    for pair in digits.as_bytes().chunks(2) {
-        push(rt, octets, octet(pair));
-    }
-}
-
-/// These messages, one after the other.
+/// The messages that these hexadecimal digits spell, each behind a marker (RFC 4271, 4.1), one after the other.
 pub fn messages(rt: &impl Abort, alloc: Global, all: &[&str]) -> Vec<u8> {
     let mut octets = Vec::new(alloc);
     for digits in all {
-        put_message(rt, &mut octets, digits);
+        put(rt, &mut octets, &[0xff; 16]);
+        put(rt, &mut octets, &common::octets(rt, alloc, digits));
     }
     octets
 }
 
 /// One message.
 pub fn message(rt: &impl Abort, alloc: Global, digits: &str) -> Vec<u8> {
-    let mut octets = Vec::new(alloc);
-    put_message(rt, &mut octets, digits);
-    octets
+    messages(rt, alloc, &[digits])
 }
 
 /// The top of the configuration and both members' tables.
@@ -150,20 +132,10 @@ impl Exchange {
         self.core.octets(c, octets).expect(rt, "octets");
     }
 
-    /// What is touched is decided.
-    pub fn turn(&mut self) {
-        self.core.turn();
-    }
-
     /// A message of a client comes, and what it touches is decided.
     pub fn hear_in_turn(&mut self, rt: &impl Abort, c: usize, digits: &str) {
         self.hear(rt, c, digits);
-        self.turn();
-    }
-
-    /// The rules are replaced by those of a good text.
-    pub fn takes_rules(&mut self, rt: &impl Abort, text: &str) {
-        is_so(rt, self.core.rules(text.as_bytes()).is_ok(), "good rules");
+        self.core.turn();
     }
 
     /// The operator commands this of a client's session.
@@ -190,12 +162,6 @@ impl Exchange {
         self.hear(rt, c, open);
         self.hear(rt, c, KEEPALIVE);
         self.sent(rt, c, 1_000);
-    }
-
-    /// The connection of a client is to be closed.
-    pub fn closes(&mut self, rt: &impl Abort, c: usize) {
-        assert!(rt; c < self.core.clients());
-        is_so(rt, self.core.wants_close(c), "to be closed");
     }
 
     /// What the link of a client takes, up to so many octets.

@@ -1,7 +1,7 @@
 //! A link in memory: it tells a script of events, and keeps what it was told. Nothing is known of it, as
 //! of one over sockets.
 
-use crate::common::{equals, is_of, push, put};
+use crate::common::{equals, is_of, push};
 use crate::route_server::exchange::{KEEPALIVE, message, messages};
 use rs_core::{Event, Link, Sink, Source};
 use rs_policy::RulesFault;
@@ -15,8 +15,6 @@ pub enum Said {
     Busy(usize),
     /// So many octets of an offer were taken.
     Took(usize, usize),
-    /// The link failed at an offer.
-    Failed(usize),
     Memory(usize),
     End(usize),
     /// The rules were replaced, or not.
@@ -30,13 +28,11 @@ pub struct Tape {
     /// What it tells, each event with its octets. Behind the last it stops.
     events: Vec<(Event, Vec<u8>)>,
     told: usize,
-    /// How many octets of each offer it takes at most, and where it fails. Behind the last it takes all.
-    takes: Vec<Option<usize>>,
-    offers: usize,
     said: Vec<Said>,
     /// What each client was sent.
     sent: [Vec<u8>; 2],
-    text: Vec<u8>,
+    /// The text of the rules.
+    pub text: Vec<u8>,
     /// Memory was refused to it.
     pub is_full: bool,
 }
@@ -47,8 +43,6 @@ impl Tape {
             alloc,
             events: Vec::new(alloc),
             told: 0,
-            takes: Vec::new(alloc),
-            offers: 0,
             said: Vec::new(alloc),
             sent: [Vec::new(alloc), Vec::new(alloc)],
             text: Vec::new(alloc),
@@ -75,29 +69,12 @@ impl Tape {
         self.add(rt, Event::Opened(c));
         self.hear(rt, c, open);
         self.hear(rt, c, KEEPALIVE);
-        self.room(rt, c, 1000);
+        self.add(rt, Event::Room(c, 1000));
     }
 
-    /// It will tell that there is room for so many octets of a client.
-    pub fn room(&mut self, rt: &impl Abort, c: usize, octets: u64) {
-        self.add(rt, Event::Room(c, octets));
-    }
-
-    /// It will take at most so many octets of the next offer that nothing was said of; or fail.
-    pub fn take(&mut self, rt: &impl Abort, most: Option<usize>) {
-        push(rt, &mut self.takes, most);
-    }
-
-    /// This is the text of the rules.
-    pub fn put_text(&mut self, rt: &impl Abort, text: &str) {
-        self.text.clear();
-        put(rt, &mut self.text, text.as_bytes());
-    }
-
-    /// Behind the first so much it was told just this.
-    pub fn was_told(&self, rt: &impl Abort, first: usize, want: &[Said]) {
-        let last = self.said.get(first..).unwrap_or(&[]);
-        equals(rt, last, want);
+    /// It was told just this.
+    pub fn was_told(&self, rt: &impl Abort, want: &[Said]) {
+        equals(rt, self.said.as_slice(), want);
     }
 
     /// A client was sent just these messages.
@@ -109,16 +86,6 @@ impl Tape {
 
     fn say(&mut self, what: Said) {
         if self.said.push(what).is_err() {
-            self.is_full = true;
-        }
-    }
-
-    /// Keeps what a client was sent.
-    fn keep(&mut self, c: usize, octets: &[u8]) {
-        let Some(sent) = self.sent.get_mut(c) else {
-            return;
-        };
-        if sent.extend_from_slice(octets).is_err() {
             self.is_full = true;
         }
     }
@@ -156,17 +123,12 @@ impl Sink for Tape {
     }
 
     fn offer(&mut self, c: usize, octets: &[u8]) -> Option<usize> {
-        let all = Some(octets.len());
-        let most = self.takes.get(self.offers).copied().unwrap_or(all);
-        self.offers = self.offers.saturating_add(1);
-        let Some(most) = most else {
-            self.say(Said::Failed(c));
-            return None;
-        };
-        let count = most.min(octets.len());
-        self.say(Said::Took(c, count));
-        self.keep(c, &octets[..count]);
-        Some(count)
+        self.say(Said::Took(c, octets.len()));
+        let sent = self.sent.get_mut(c)?;
+        if sent.extend_from_slice(octets).is_err() {
+            self.is_full = true;
+        }
+        Some(octets.len())
     }
 
     fn memory(&mut self, c: usize) {
