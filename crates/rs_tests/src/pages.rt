@@ -6,7 +6,7 @@ mod room;
 mod targets;
 mod traffic;
 
-use crate::common::{is_of, is_so, prefix, push, put, shared, text_of};
+use crate::common::{is_so, prefix, push, put, shared, text_of};
 use crate::pages::traffic::count;
 use rs_attrs::{Attrs, Mode};
 use rs_octets::Prefix;
@@ -188,21 +188,6 @@ fn server(rt: &impl Abort, alloc: Global, count: u32) -> Memory {
     }
 }
 
-/// Puts the next piece of a page behind the others, and answers what is left of the page.
-fn put_piece<P: Pages>(
-    rt: &impl Abort,
-    alloc: Global,
-    pages: &P,
-    page: Page,
-    text: &mut Vec<u8>,
-) -> Option<Page> {
-    let mut piece = Piece::new(alloc).expect(rt, "a piece");
-    let behind = pages.write(page, &mut piece).expect(rt, "memory");
-    is_so(rt, !behind.is_cut(), "a whole page");
-    put(rt, text, piece.octets());
-    behind.page()
-}
-
 /// The octets of a page, and in how many pieces they were written.
 fn written<P: Pages>(
     rt: &impl Abort,
@@ -211,16 +196,19 @@ fn written<P: Pages>(
     first: Option<Page>,
 ) -> (Vec<u8>, usize) {
     let mut text = Vec::new(alloc);
-    let mut pieces = 0_usize;
+    let mut piece = Piece::new(alloc).expect(rt, "a piece");
     let mut next = first;
-    for _ in 0..10_000 {
+    for pieces in 0..10_000 {
         let Some(page) = next else {
-            break;
+            return (text, pieces);
         };
-        next = put_piece(rt, alloc, pages, page, &mut text);
-        pieces = pieces.saturating_add(1);
+        let behind = pages.write(page, &mut piece).expect(rt, "memory");
+        is_so(rt, !behind.is_cut(), "a whole page");
+        put(rt, &mut text, piece.octets());
+        piece.clear();
+        next = behind.page();
     }
-    (text, pieces)
+    (text, 10_000)
 }
 
 /// What was seen of two members in the fifth second, and counted since the start.
@@ -261,33 +249,10 @@ fn found(rt: &impl Abort, alloc: Global, tables: &Memory, prefix: &str) -> Optio
     Some(page.at)
 }
 
-/// The text at a target.
-fn text_at(rt: &impl Abort, alloc: Global, tables: &Memory, target: &str) -> String {
-    let (text, _) = page(rt, alloc, tables, target);
-    text
-}
-
-/// The page at a target says what is wanted, or its text is shown.
-fn is_said(rt: &impl Abort, said: bool, target: &str, text: &str) {
-    assert!(rt; said, "{target} is {text}");
-}
-
 /// The page at a target says this.
 fn says(rt: &impl Abort, alloc: Global, tables: &Memory, target: &str, said: &str) {
-    let text = text_at(rt, alloc, tables, target);
-    is_said(rt, text.contains(said), target, text.as_str());
-}
-
-/// The page at a target begins so.
-fn begins(rt: &impl Abort, alloc: Global, tables: &Memory, target: &str, said: &str) {
-    let text = text_at(rt, alloc, tables, target);
-    is_said(rt, text.starts_with(said), target, text.as_str());
-}
-
-/// The page at a target ends so.
-fn ends(rt: &impl Abort, alloc: Global, tables: &Memory, target: &str, said: &str) {
-    let text = text_at(rt, alloc, tables, target);
-    is_said(rt, text.ends_with(said), target, text.as_str());
+    let (text, _) = page(rt, alloc, tables, target);
+    assert!(rt; text.contains(said), "{target} is {text}");
 }
 
 /// The page at a target says this so often.
@@ -299,13 +264,8 @@ fn says_times(
     said: &str,
     count: usize,
 ) {
-    let text = text_at(rt, alloc, tables, target);
-    is_of(
-        rt,
-        text.matches(said).count(),
-        count,
-        &(said, text.as_str()),
-    );
+    let (text, _) = page(rt, alloc, tables, target);
+    assert!(rt; text.matches(said).count() == count, "{target} is {text}");
 }
 
 /// Lets tables go in one call, which is one step of a test, and not one for each of their lists.

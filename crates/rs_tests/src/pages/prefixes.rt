@@ -1,10 +1,8 @@
 //! Prefixes as texts within a target, and as numbers by which a page goes on.
 
-use crate::common::{equals, is, prefix};
-use crate::pages::{Memory, found, let_go, server};
-use rs_page_parts::keys::{key, prefix_at};
-use std::alloc::Global;
-use std::process::Abort;
+use crate::common::is;
+use crate::pages::{found, let_go, server};
+use rs_page_parts::keys::prefix_at;
 
 /// Texts of prefixes, and what they spell: bits and length.
 static PREFIXES: [(&str, Option<(u32, u8)>); 12] = [
@@ -22,32 +20,14 @@ static PREFIXES: [(&str, Option<(u32, u8)>); 12] = [
     ("", None),
 ];
 
-/// A page goes on from this prefix: its number is that of the prefix, which it spells.
-fn goes_on_from(rt: &impl Abort, at: u64, bits: u32, len: u8) {
-    let prefix = prefix(rt, bits, len);
-    equals(rt, at, key(&prefix));
-    equals(rt, prefix_at(at), prefix);
-}
-
-/// The page of a prefix goes on from this number; there is none where the text spells no prefix.
-fn is_read(rt: &impl Abort, text: &str, at: Option<u64>, want: Option<(u32, u8)>) {
-    is(rt, at.is_some(), want.is_some(), text);
-    if let (Some(at), Some((bits, len))) = (at, want) {
-        goes_on_from(rt, at, bits, len);
-    }
-}
-
-/// Each row's text is read as it says.
-fn all_are_read(rt: &impl Abort, alloc: Global, tables: &Memory) {
-    for (text, want) in &PREFIXES {
-        let at = found(rt, alloc, tables, text);
-        is_read(rt, text, at, *want);
-    }
-}
-
+/// The page of a prefix goes on from the number of the prefix that the text spells; there is no page where it spells none.
 #[test]
 fn prefixes_are_read(rt: HostRuntime) {
     let tables = server(&rt, rt.alloc(), 0);
-    all_are_read(&rt, rt.alloc(), &tables);
+    for (text, want) in &PREFIXES {
+        let at = found(&rt, rt.alloc(), &tables, text);
+        let prefix = at.map(|at| prefix_at(at));
+        is(&rt, prefix.map(|it| (it.bits(), it.len())), *want, text);
+    }
     let_go(tables);
 }

@@ -1,9 +1,7 @@
 //! What each page says, which pages there are none of, and what rules keep.
 
-use super::{Memory, begins, ends, let_go, page, says, says_times, server};
-use crate::common::{is, text_of};
-use std::alloc::Global;
-use std::process::Abort;
+use super::{let_go, page, says, says_times, server};
+use crate::common::is;
 
 /// Targets of a server with two members, of which alpha has announced 198.51.100.0/24 and 198.51.101.0/24 and
 /// beta takes no 198.51.100.0/24; and what the page says.
@@ -113,14 +111,22 @@ static SAID: [(&str, &str); 34] = [
     ),
 ];
 
-/// Targets of a server to which alpha has announced 198.51.102.0/24 too, which its import list drops; and the
-/// one route that the page lists, if any.
-static KEPT: [(&str, Option<&str>); 5] = [
-    ("/routes/protocol/beta", None),
-    ("/routes/filtered/alpha", Some("198.51.102.0/24")),
-    ("/routes/filtered/beta", None),
-    ("/routes/noexport/alpha", None),
-    ("/routes/noexport/beta", Some("198.51.100.0/24")),
+/// Targets of a server to which alpha has announced 198.51.102.0/24 too, which its import list drops; what the page says of the routes
+/// that it lists, and how many they are.
+static KEPT: [(&str, &str, usize); 5] = [
+    ("/routes/protocol/beta", "\"routes\":[]}\n", 0),
+    (
+        "/routes/filtered/alpha",
+        "\"routes\":[{\"network\":\"198.51.102.0/24\",\"gateway\":\"192.0.2.11\",\"from_protocol\":\"alpha\",",
+        1,
+    ),
+    ("/routes/filtered/beta", "\"routes\":[]}\n", 0),
+    ("/routes/noexport/alpha", "\"routes\":[]}\n", 0),
+    (
+        "/routes/noexport/beta",
+        "\"routes\":[{\"network\":\"198.51.100.0/24\",\"gateway\":\"192.0.2.11\",\"from_protocol\":\"alpha\",",
+        1,
+    ),
 ];
 
 /// Targets that name no page.
@@ -143,69 +149,31 @@ static NONE: [&str; 16] = [
     "/why?to=gamma&prefix=198.51.100.0/24",
 ];
 
-/// Each page says this.
-fn all_say(rt: &impl Abort, alloc: Global, tables: &Memory) {
-    for (target, said) in &SAID {
-        says(rt, alloc, tables, target, said);
-    }
-}
-
 #[test]
 fn each_page_says(rt: HostRuntime) {
     let tables = server(&rt, rt.alloc(), 2);
-    all_say(&rt, rt.alloc(), &tables);
-    let_go(tables);
-}
-
-/// What a list of routes begins with: this network of alpha's alone, or nothing.
-fn kept_text(rt: &impl Abort, alloc: Global, kept: Option<&str>) -> String {
-    let Some(network) = kept else {
-        return text_of(rt, alloc, &["\"routes\":[]}\n"]);
-    };
-    let behind = "\",\"gateway\":\"192.0.2.11\",\"from_protocol\":\"alpha\",";
-    text_of(rt, alloc, &["\"routes\":[{\"network\":\"", network, behind])
-}
-
-/// The page at a target lists this network of alpha's alone, or nothing.
-fn lists(rt: &impl Abort, alloc: Global, tables: &Memory, target: &str, kept: Option<&str>) {
-    let said = kept_text(rt, alloc, kept);
-    let count = if kept.is_some() { 1 } else { 0 };
-    begins(rt, alloc, tables, target, "{\"api\":");
-    says(rt, alloc, tables, target, said.as_str());
-    says_times(rt, alloc, tables, target, "\"network\"", count);
-    ends(rt, alloc, tables, target, "]}\n");
-}
-
-/// The page at each target lists so.
-fn all_list(rt: &impl Abort, alloc: Global, tables: &Memory) {
-    for (target, kept) in &KEPT {
-        lists(rt, alloc, tables, target, *kept);
+    for (target, said) in &SAID {
+        says(&rt, rt.alloc(), &tables, target, said);
     }
+    let_go(tables);
 }
 
 #[test]
 fn what_rules_keep_is_listed(rt: HostRuntime) {
     let tables = server(&rt, rt.alloc(), 3);
-    all_list(&rt, rt.alloc(), &tables);
-    let_go(tables);
-}
-
-/// There is no page at a target.
-fn is_none(rt: &impl Abort, alloc: Global, tables: &Memory, target: &str) {
-    let (_, pieces) = page(rt, alloc, tables, target);
-    is(rt, pieces, 0, target);
-}
-
-/// There is none at each of these.
-fn all_are_none(rt: &impl Abort, alloc: Global, tables: &Memory) {
-    for target in &NONE {
-        is_none(rt, alloc, tables, target);
+    for (target, said, count) in &KEPT {
+        says(&rt, rt.alloc(), &tables, target, said);
+        says_times(&rt, rt.alloc(), &tables, target, "\"network\"", *count);
     }
+    let_go(tables);
 }
 
 #[test]
 fn there_are_no_others(rt: HostRuntime) {
     let tables = server(&rt, rt.alloc(), 1);
-    all_are_none(&rt, rt.alloc(), &tables);
+    for target in &NONE {
+        let (_, pieces) = page(&rt, rt.alloc(), &tables, target);
+        is(&rt, pieces, 0, target);
+    }
     let_go(tables);
 }

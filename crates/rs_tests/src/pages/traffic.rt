@@ -1,10 +1,9 @@
 //! What is counted of members' traffic and of turns.
 
-use crate::common::{equals, is_of};
+use crate::common::equals;
 use crate::pages::{let_go, says_times, server};
 use rs_page_parts::traffic::Traffic;
 use rs_page_rows::counts::{Counts, Direction};
-use std::process::Abort;
 
 /// OPEN, KEEPALIVE, UPDATE without routes, UPDATE that withdraws 192.0.2.0/24, KEEPALIVE, and the first UPDATE again
 /// (RFC 4271, 4.1 to 4.4).
@@ -22,9 +21,6 @@ static SESSION: [u8; 140] = [
     0xff, 0xff, 0xff, 0xff, 0xff, 0xff, 0xff, 0xff, 0xff, 0xff, 0xff, 0xff, 0xff, 0xff, 0xff, 0xff,
     0, 23, 2, 0, 0, 0, 0,
 ];
-
-/// How many octets of it have come where each of its UPDATEs is whole.
-static UPDATE_ENDS: [usize; 3] = [71, 98, 140];
 
 /// Counts what happened where alpha said all that, beta was sent the first of its octets, and turns took 1 ms, a
 /// little more, and 3 seconds.
@@ -79,51 +75,17 @@ fn counts_are_told(rt: HostRuntime) {
     let_go(tables);
 }
 
-/// So many UPDATEs were counted.
-fn has_updates(rt: &impl Abort, traffic: &Traffic, want: u64, at: usize) {
-    is_of(rt, traffic.updates(), want, &("cut at", at));
-}
-
-/// How many UPDATEs are whole in the first so many octets.
-fn whole_in(octets: usize) -> u64 {
-    let mut whole = 0_u64;
-    for end in &UPDATE_ENDS {
-        if *end <= octets {
-            whole = whole.saturating_add(1);
-        }
-    }
-    whole
-}
-
-/// The session is counted in two pieces.
-fn is_counted_in_two(rt: &impl Abort, at: usize) {
-    assert!(rt; at <= SESSION.len());
-    let (front, rest) = SESSION.split_at(at);
-    let mut traffic = Traffic::new();
-    traffic.take(front);
-    has_updates(rt, &traffic, whole_in(at), at);
-    traffic.take(rest);
-    has_updates(rt, &traffic, 3, at);
-    equals(rt, traffic.octets(), 140);
-}
-
+/// The session's UPDATEs are counted octet by octet, and none behind a refused header.
 #[test]
 fn updates_are_counted_in_pieces(rt: HostRuntime) {
-    for at in 0..SESSION.len() {
-        is_counted_in_two(&rt, at);
-    }
-}
-
-#[test]
-fn nothing_is_counted_behind_a_refused_header(rt: HostRuntime) {
     let mut traffic = Traffic::new();
     for octet in &SESSION {
         traffic.take(&[*octet]);
     }
-    has_updates(&rt, &traffic, 3, 0);
+    equals(&rt, (traffic.octets(), traffic.updates()), (140, 3));
     traffic.take(&[0; 19]);
     traffic.take(&SESSION);
-    has_updates(&rt, &traffic, 3, 0);
+    equals(&rt, (traffic.octets(), traffic.updates()), (299, 3));
     let mut next = traffic.begun();
     next.take(&SESSION);
     equals(&rt, (next.octets(), next.updates()), (439, 6));
