@@ -100,54 +100,32 @@ fn each_event_by_its_lines(rt: HostRuntime) {
     is_said(&rt, rt.alloc(), &names, event, "shutdown member-2 627965\n");
 }
 
-/// The lines of a text of so many octets `a`.
-fn lines_of_text(rt: &impl Abort, alloc: Global, size: usize) -> Result<Vec<u8>, RecordFault> {
+/// How many octets the lines of a text of so many octets `a` have.
+fn lines_of_text(rt: &impl Abort, alloc: Global, size: usize) -> Result<usize, RecordFault> {
     let names = names(rt, alloc);
     let text = Vec::from_elem(alloc, b'a', size).expect(rt, "a text");
     let mut lines = Vec::new(alloc);
-    match put_event(&mut lines, &names, Event::Rules, &[0; 4096], &text) {
-        Ok(()) => Ok(lines),
-        Err(fault) => Err(fault),
-    }
+    put_event(&mut lines, &names, Event::Rules, &[0; 4096], &text)?;
+    Ok(lines.len())
 }
 
-/// Puts a line of this word and so many octets `a`. An empty text is said as an empty line.
-fn put_part(rt: &impl Abort, lines: &mut Vec<u8>, word: &[u8], size: usize) {
-    put(rt, lines, word);
-    for _ in 0..size {
-        put(rt, lines, b"61");
-    }
-    if size == 0 {
-        put(rt, lines, b"0a");
-    }
-    put(rt, lines, b"\n");
-}
-
-/// A text is said in these parts, of which the first two are left out where they are empty.
-fn is_parted(rt: &impl Abort, alloc: Global, size: usize, parts: [usize; 3]) {
-    let [first, second, last] = parts;
-    let mut wanted = Vec::new(alloc);
-    if first > 0 {
-        put_part(rt, &mut wanted, b"more ", first);
-    }
-    if second > 0 {
-        put_part(rt, &mut wanted, b"more ", second);
-    }
-    put_part(rt, &mut wanted, b"rules ", last);
-    let lines = lines_of_text(rt, alloc, size).expect(rt, "lines");
-    is_of(rt, lines, wanted, &size);
-}
+/// Texts of so many octets, and what their lines have: the last `rules `, two digits for each octet, and an end; those of 4,096 octets
+/// before it `more ` in place of `rules `. An empty text is said as an empty line.
+static TEXTS: [(usize, usize); 5] = [
+    (0, 6 + 2 + 1),
+    (1, 6 + 2 + 1),
+    (4096, 6 + 8192 + 1),
+    (4097, 5 + 8192 + 1 + 6 + 2 + 1),
+    (8193, 2 * (5 + 8192 + 1) + 6 + 2 + 1),
+];
 
 #[test]
 fn texts_of_any_size(rt: HostRuntime) {
-    is_parted(&rt, rt.alloc(), 0, [0, 0, 0]);
-    is_parted(&rt, rt.alloc(), 1, [0, 0, 1]);
-    is_parted(&rt, rt.alloc(), 4096, [0, 0, 4096]);
-    is_parted(&rt, rt.alloc(), 4097, [0, 4096, 1]);
-    is_parted(&rt, rt.alloc(), 8193, [4096, 4096, 1]);
+    for (size, want) in &TEXTS {
+        is_of(&rt, lines_of_text(&rt, rt.alloc(), *size), Ok(*want), size);
+    }
     let over = lines_of_text(&rt, rt.alloc(), 64 * 1024 * 1024 + 1);
-    let is_too_long = over.is_err_and(|fault| fault == RecordFault::TextTooLong);
-    is_so(&rt, is_too_long, "too long");
+    equals(&rt, over, Err(RecordFault::TextTooLong));
 }
 
 /// A link that gives the core events with their octets, and of what it is offered after each takes so many
@@ -161,21 +139,6 @@ struct Script<'a> {
     failing: u64,
     sent_a: Vec<u8>,
     sent_b: Vec<u8>,
-}
-
-impl Script<'_> {
-    /// The link of a session below.
-    fn new(alloc: Global, grain: usize, failing: u64) -> Script<'static> {
-        Script {
-            events: &SESSION,
-            at: 0,
-            grain,
-            left: 0,
-            failing,
-            sent_a: Vec::new(alloc),
-            sent_b: Vec::new(alloc),
-        }
-    }
 }
 
 impl Link for Script<'_> {
@@ -297,8 +260,8 @@ fn replayed<R: Threads + Wait + Sync + Abort>(rt: &R, alloc: Global, record: &[u
     output
 }
 
-/// The octets of the lines `sent` of a client in a replay's output.
-fn sent_in(rt: &impl Abort, alloc: Global, output: &[u8], front: &[u8]) -> Vec<u8> {
+/// A replay's output has just these octets of a client, in lines that begin so.
+fn has_sent(rt: &impl Abort, alloc: Global, output: &[u8], front: &[u8], want: &[u8]) {
     let mut octets = Vec::new(alloc);
     for line in output.split(|octet| *octet == b'\n') {
         if let Some(digits) = line.strip_prefix(front) {
@@ -306,12 +269,6 @@ fn sent_in(rt: &impl Abort, alloc: Global, output: &[u8], front: &[u8]) -> Vec<u
             put(rt, &mut octets, &sent);
         }
     }
-    octets
-}
-
-/// A replay's output has just these octets of a client.
-fn has_sent(rt: &impl Abort, alloc: Global, output: &[u8], front: &[u8], want: &[u8]) {
-    let octets = sent_in(rt, alloc, output, front);
     equals(rt, octets.as_slice(), want);
 }
 
@@ -323,7 +280,15 @@ fn is_replayed<R: Threads + Wait + Sync + Abort>(
     grain: usize,
     failing: u64,
 ) {
-    let mut link = Script::new(alloc, grain, failing);
+    let mut link = Script {
+        events: &SESSION,
+        at: 0,
+        grain,
+        left: 0,
+        failing,
+        sent_a: Vec::new(alloc),
+        sent_b: Vec::new(alloc),
+    };
     let reel = recorded(rt, alloc, &mut link);
     let output = replayed(rt, alloc, reel.waiting());
     has_sent(rt, alloc, &output, b"sent a ", &link.sent_a);
@@ -332,20 +297,22 @@ fn is_replayed<R: Threads + Wait + Sync + Abort>(
     is_of(rt, is_withdrawn, true, &grain);
 }
 
+/// After each event so many octets are taken, and at this offer, if any, the link fails.
+static GRAINS: [(usize, u64); 7] = [
+    (4096, 0),
+    (50, 0),
+    (41, 0),
+    (30, 0),
+    (4096, 6),
+    (30, 7),
+    (30, 4),
+];
+
 #[test]
 fn what_was_recorded_replays(rt: HostRuntime) {
-    is_replayed(&rt, rt.alloc(), 4096, 0);
-    is_replayed(&rt, rt.alloc(), 50, 0);
-    is_replayed(&rt, rt.alloc(), 41, 0);
-    is_replayed(&rt, rt.alloc(), 30, 0);
-    is_replayed(&rt, rt.alloc(), 4096, 6);
-    is_replayed(&rt, rt.alloc(), 30, 7);
-    is_replayed(&rt, rt.alloc(), 30, 4);
-}
-
-/// These lines wait on a reel.
-fn waits(rt: &impl Abort, reel: &Reel, lines: &[u8]) {
-    equals(rt, reel.waiting(), lines);
+    for (grain, failing) in &GRAINS {
+        is_replayed(&rt, rt.alloc(), *grain, *failing);
+    }
 }
 
 #[test]
@@ -353,7 +320,7 @@ fn a_reel_is_over(rt: HostRuntime) {
     let mut reel = Reel::new(rt.alloc(), 12);
     reel.take(b"open a\n");
     reel.take(b"turn\n");
-    waits(&rt, &reel, b"open a\nturn\n");
+    equals(&rt, reel.waiting(), b"open a\nturn\n".as_slice());
     reel.clear();
     // One event's lines find room on an empty reel, and nothing behind them.
     reel.take(b"open member-2\n");
@@ -362,5 +329,5 @@ fn a_reel_is_over(rt: HostRuntime) {
     is_so(&rt, reel.is_over(), "over");
     reel.clear();
     reel.take(b"turn\n");
-    waits(&rt, &reel, b"");
+    is_so(&rt, reel.waiting().is_empty(), "nothing is taken");
 }

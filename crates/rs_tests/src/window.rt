@@ -7,8 +7,7 @@ use rs_window::visit::{PATIENCE, Visit};
 use std::alloc::{AllocError, Global};
 use std::process::Abort;
 
-/// Pages of letters: `/0` to `/9` have their number, `/letters` has two pieces, `/cut` is cut off after one,
-/// `/refused` for want of memory.
+/// Pages of letters: `/0` to `/9` have their number, `/letters` has two pieces, `/cut` is cut off after one.
 struct Letters;
 
 const TEXT: Page = Page {
@@ -26,8 +25,6 @@ const LETTERS: u32 = 10;
 
 const CUT: u32 = 11;
 
-const REFUSED: u32 = 12;
-
 impl Pages for Letters {
     ghost finds = { λ pages target page. Unit {0} };
 
@@ -37,7 +34,6 @@ impl Pages for Letters {
         let which = match target {
             b"/letters" => LETTERS,
             b"/cut" => CUT,
-            b"/refused" => REFUSED,
             [b'/', digit @ b'0'..=b'9'] => u32::from(*digit - b'0'),
             _ => return None,
         };
@@ -51,11 +47,6 @@ impl Pages for Letters {
                 Next::More(Page { at: 1, ..page })
             }
             (CUT, _) => Next::Cut,
-            (REFUSED, 0) => {
-                piece.put(b"abcde");
-                Next::More(Page { at: 1, ..page })
-            }
-            (REFUSED, _) => return Err(AllocError),
             (LETTERS, 0) => {
                 piece.put(b"abcdefghijklmnopq");
                 Next::More(Page { at: 1, ..page })
@@ -90,18 +81,13 @@ impl Play {
         }
     }
 
-    /// The visitor takes up to so many octets of what waits.
-    fn take(&mut self, rt: &impl Abort, most: usize) {
-        let waiting = self.visit.waiting();
-        let count = waiting.len().min(most);
-        put(rt, &mut self.sent, &waiting[..count]);
-        self.visit.took(count, 0);
-    }
-
     /// Goes on until nothing comes of it, and the visitor takes so many octets at a time.
     fn go_on(&mut self, rt: &impl Abort, most: usize) {
         for _ in 0..100_000 {
-            self.take(rt, most);
+            let waiting = self.visit.waiting();
+            let count = waiting.len().min(most);
+            put(rt, &mut self.sent, &waiting[..count]);
+            self.visit.took(count, 0);
             if self.visit.can_advance() {
                 self.visit.advance(&Letters, &mut self.piece, 0);
             } else if self.visit.waiting().is_empty() {
@@ -130,34 +116,21 @@ impl Play {
         equals(rt, self.visit.is_done(), is_done);
     }
 
-    /// So many seconds after the start the visitor is late or not.
-    fn is_late(&self, rt: &impl Abort, now: u64, want: bool) {
-        equals(rt, self.visit.is_late(now), want);
+    /// The visitor is late so many seconds after the start, and not before.
+    fn is_late_at(&self, rt: &impl Abort, at: u64) {
+        is_so(rt, !self.visit.is_late(at.saturating_sub(1)), "in time");
+        is_so(rt, self.visit.is_late(at), "late");
     }
 
     /// Lets it go in one call, which is one step of a test, and not one for each of its parts.
     fn let_go(self) {}
 }
 
-/// What a visitor is sent who says this.
-fn answer(rt: &impl Abort, alloc: Global, said: &[u8]) -> Play {
-    let mut play = Play::new(rt, alloc);
-    play.say(rt, said, 1000);
-    play
-}
-
-/// A visitor who says this is sent just that, and the connection is closed after it or not.
-fn is_answered(rt: &impl Abort, alloc: Global, said: &[u8], want: &[u8], is_done: bool) {
-    let play = answer(rt, alloc, said);
-    play.was_sent(rt, want, is_done);
-    play.let_go();
-}
-
 static LETTERS_ASKED: &[u8] = b"GET /letters HTTP/1.1\r\nHost: localhost:8080\r\n\r\n";
 
 static HEAD: &[u8] = b"HTTP/1.1 200 OK\r\nContent-Type: text/plain; charset=utf-8\r\n";
 
-static CHUNKED: &[u8] = b"Transfer-Encoding: chunked\r\n";
+const CHUNKED: &[u8] = b"Transfer-Encoding: chunked\r\n";
 
 static GUARDS: &[u8] =
     b"Cache-Control: no-store\r\nX-Content-Type-Options: nosniff\r\nReferrer-Policy: no-referrer\r\nContent-Security-Policy: default-src 'none'; style-src 'unsafe-inline'; form-action 'self'; base-uri 'none'; frame-ancestors 'none'\r\n";
@@ -194,12 +167,30 @@ fn a_request_in_two_parts_gets_one_answer(rt: HostRuntime) {
     }
 }
 
+/// Requests, and the fields and the body of the answer, behind which the connection is closed.
+static ANSWERED: [(&[u8], &[u8], &[u8]); 2] = [
+    // an older visitor gets a page without chunks
+    (
+        b"GET /letters HTTP/1.0\r\n\r\n",
+        b"Connection: close\r\n",
+        b"abcdefghijklmnopqrst",
+    ),
+    // a page that is cut off has no end
+    (
+        b"GET /cut HTTP/1.1\r\nHost: localhost\r\n\r\n",
+        CHUNKED,
+        b"0005\r\nabcde\r\n",
+    ),
+];
+
 #[test]
-fn an_older_visitor_gets_a_page_without_chunks(rt: HostRuntime) {
-    let fields = b"Connection: close\r\n";
-    let want = text(&rt, rt.alloc(), fields, b"abcdefghijklmnopqrst");
-    let said = b"GET /letters HTTP/1.0\r\n\r\n";
-    is_answered(&rt, rt.alloc(), said, &want, true);
+fn requests_behind_which_the_connection_is_closed(rt: HostRuntime) {
+    for (said, fields, body) in &ANSWERED {
+        let mut play = Play::new(&rt, rt.alloc());
+        play.say(&rt, said, 1000);
+        play.was_sent(&rt, &text(&rt, rt.alloc(), fields, body), true);
+        play.let_go();
+    }
 }
 
 #[test]
@@ -210,22 +201,10 @@ fn head_has_no_body_and_the_next_is_answered(rt: HostRuntime) {
     let fields = b"Transfer-Encoding: chunked\r\nConnection: close\r\n";
     let second = text(&rt, rt.alloc(), fields, b"0001\r\n7\r\n0\r\n\r\n");
     put(&rt, &mut want, &second);
-    is_answered(&rt, rt.alloc(), said, &want, true);
-}
-
-/// Asks for the page of this digit.
-fn put_request(rt: &impl Abort, said: &mut Vec<u8>, digit: u8) {
-    put(rt, said, b"GET /");
-    put(rt, said, &[digit]);
-    put(rt, said, b" HTTP/1.1\r\nHost: localhost\r\n\r\n");
-}
-
-/// The answer to it.
-fn put_answer(rt: &impl Abort, alloc: Global, want: &mut Vec<u8>, digit: u8) {
-    let body = [b'0', b'0', b'0', b'1', b'\r', b'\n', digit];
-    let whole = text(rt, alloc, CHUNKED, &body);
-    put(rt, want, &whole);
-    put(rt, want, b"\r\n0\r\n\r\n");
+    let mut play = Play::new(&rt, rt.alloc());
+    play.say(&rt, said, 1000);
+    play.was_sent(&rt, &want, true);
+    play.let_go();
 }
 
 #[test]
@@ -234,19 +213,17 @@ fn a_thousand_requests_at_once_are_answered_in_order(rt: HostRuntime) {
     let mut want = Vec::new(rt.alloc());
     for at in 0..1000_usize {
         let digit = b'0' + (at * 7 % 10) as u8;
-        put_request(&rt, &mut said, digit);
-        put_answer(&rt, rt.alloc(), &mut want, digit);
+        put(&rt, &mut said, b"GET /");
+        put(&rt, &mut said, &[digit]);
+        put(&rt, &mut said, b" HTTP/1.1\r\nHost: localhost\r\n\r\n");
+        let body = [b'0', b'0', b'0', b'1', b'\r', b'\n', digit];
+        put(&rt, &mut want, &text(&rt, rt.alloc(), CHUNKED, &body));
+        put(&rt, &mut want, b"\r\n0\r\n\r\n");
     }
-    let play = answer(&rt, rt.alloc(), &said);
-    equals(&rt, play.sent.as_slice(), want.as_slice());
+    let mut play = Play::new(&rt, rt.alloc());
+    play.say(&rt, &said, 1000);
+    play.was_sent(&rt, &want, false);
     play.let_go();
-}
-
-#[test]
-fn a_page_that_is_cut_off_has_no_end(rt: HostRuntime) {
-    let want = text(&rt, rt.alloc(), CHUNKED, b"0005\r\nabcde\r\n");
-    let said = b"GET /cut HTTP/1.1\r\nHost: localhost\r\n\r\n";
-    is_answered(&rt, rt.alloc(), said, &want, true);
 }
 
 #[test]
@@ -261,21 +238,13 @@ fn what_was_said_before_the_end_is_answered(rt: HostRuntime) {
     play.let_go();
 }
 
-impl Play {
-    /// The visitor is late so many seconds after the start, and not before.
-    fn is_late_at(&self, rt: &impl Abort, at: u64) {
-        self.is_late(rt, at.saturating_sub(1), false);
-        self.is_late(rt, at, true);
-    }
-}
-
 #[test]
 fn a_slow_visitor_is_late(rt: HostRuntime) {
     let mut play = Play::new(&rt, rt.alloc());
     play.say(&rt, b"GET /3 HT", 1);
     play.is_late_at(&rt, PATIENCE + 1);
     play.visit.hear(b"TP/1.1\r\nHost: localhost\r\n\r\n");
-    play.is_late(&rt, PATIENCE + 1, false);
+    is_so(&rt, !play.visit.is_late(PATIENCE + 1), "in time");
     play.visit.advance(&Letters, &mut play.piece, PATIENCE);
     play.is_late_at(&rt, 2 * PATIENCE + 1);
     play.let_go();

@@ -3,7 +3,7 @@
 ghost use Rattle.std.specs.Prelude.{IfOk};
 ghost use Rattle.rs_workers.specs.Turned.{ArePlaced};
 
-use crate::common::{equals, is_of, is_so, prefix, shared};
+use crate::common::{ROUTE, equals, is_of, is_so, prefix, shared, text_of};
 use rs_adjin::AdjIns;
 use rs_attrs::{Attrs, Mode};
 use rs_open::Limit;
@@ -79,31 +79,24 @@ impl Gate for Counting {
     }
 }
 
-/// Puts what is said of one member, AS 64512 or a greater one, at the end of the configuration.
-fn put_member(rt: &impl Abort, alloc: Global, text: &mut String, n: u8) {
-    let number = 64512 + u32::from(n);
-    let member = format!(in alloc;
-        "[[client]]\nname = \"m{n}\"\nas = {number}\nlisten = \"127.0.0.1:17901\"\npeer = \"127.0.1.{n}\"\n"
-    );
-    let member = member.expect(rt, "a member");
-    text.push_str(member.as_str()).expect(rt, "a member");
-}
-
-/// The configuration of so many members.
+/// The configuration of so many members, AS 64512 and greater ones.
 fn configuration(rt: &impl Abort, alloc: Global, members: u8) -> Config {
-    let top = "as = 64500\nidentifier = \"192.0.2.1\"\n";
-    let mut text = String::from_str(alloc, top).expect(rt, "a text");
+    let mut text = text_of(rt, alloc, &["as = 64500\nidentifier = \"192.0.2.1\"\n"]);
     for n in 0..members {
-        put_member(rt, alloc, &mut text, n);
+        let number = 64512 + u32::from(n);
+        let member = format!(in alloc;
+            "[[client]]\nname = \"m{n}\"\nas = {number}\nlisten = \"127.0.0.1:17901\"\npeer = \"127.0.1.{n}\"\n"
+        );
+        let member = member.expect(rt, "a member");
+        text.push_str(member.as_str()).expect(rt, "a member");
     }
     Config::read(alloc, text.as_str()).expect(rt, "a configuration")
 }
 
-/// ORIGIN IGP, AS_PATH 64496 and NEXT_HOP 192.0.2.`host`.
+/// `ROUTE` with NEXT_HOP 192.0.2.`host`.
 fn attrs(rt: &impl Abort, alloc: Global, host: u8) -> Arc<Attrs> {
-    let field = [
-        0x40, 1, 1, 0, 0x40, 2, 6, 2, 1, 0, 0, 0xfb, 0xf0, 0x40, 3, 4, 0xc0, 0, 2, host,
-    ];
+    let mut field = ROUTE;
+    field[19] = host;
     shared(rt, alloc, &field)
 }
 
@@ -203,32 +196,21 @@ fn have_decided(rt: &impl Abort, all: &[Outlet], count: usize, decided: usize) {
     }
 }
 
-/// Takes one message from each of two outlets. Whether both gave the same octets, or both none.
-fn give_the_same(tables: &AdjIns, one: &mut Outlet, other: &mut Outlet) -> bool {
-    one.begin(tables);
-    other.begin(tables);
-    let is_same = one.lent() == other.lent();
-    let taken = one.lent().len();
-    one.took(taken);
-    let taken = other.lent().len();
-    other.took(taken);
-    is_same
-}
-
-/// Whether two outlets answered the same and send the same messages, until both are drained.
-fn are_alike(tables: &AdjIns, one: &mut Outlet, other: &mut Outlet) -> bool {
-    if one.last() != other.last() {
-        return false;
-    }
+/// Two outlets send the same messages, until both are drained.
+fn send_the_same(rt: &impl Abort, tables: &AdjIns, one: &mut Outlet, other: &mut Outlet) {
     for _ in 0..100_000u32 {
-        if !give_the_same(tables, one, other) {
-            return false;
-        }
-        if one.is_drained() || other.is_drained() {
-            return one.is_drained() && other.is_drained();
+        one.begin(tables);
+        other.begin(tables);
+        is_so(rt, one.lent() == other.lent(), "the same message");
+        let count = one.lent().len();
+        one.took(count);
+        let count = other.lent().len();
+        other.took(count);
+        if one.is_drained() {
+            break;
         }
     }
-    false
+    is_so(rt, one.is_drained() && other.is_drained(), "both drained");
 }
 
 #[test]
@@ -261,11 +243,9 @@ fn has_shares<R: Threads + Wait + Sync + Abort>(
 #[test]
 fn shares_are_as_long_as_said(rt: HostRuntime) {
     // members, workers, shares
-    has_shares(&rt, rt.alloc(), 1, 16, 1);
-    has_shares(&rt, rt.alloc(), 5, 4, 3);
-    has_shares(&rt, rt.alloc(), 16, 16, 16);
-    has_shares(&rt, rt.alloc(), 7, 2, 2);
-    has_shares(&rt, rt.alloc(), 6, 1, 1);
+    for (members, workers, shares) in [(1, 16, 1), (5, 4, 3), (16, 16, 16), (7, 2, 2), (6, 1, 1)] {
+        has_shares(&rt, rt.alloc(), members, workers, shares);
+    }
 }
 
 /// Turns by so many workers leave all seven outlets as turns by one do.
@@ -274,15 +254,15 @@ fn is_the_same<R: Threads + Wait + Sync + Abort>(rt: &R, exchange: &mut Exchange
     let mut all = exchange.turned(rt, workers, &Free);
     have_decided(rt, &all, 7, 10_000);
     for (one, other) in alone.iter_mut().zip(all.iter_mut()) {
-        let alike = are_alike(&exchange.tables, one, other);
-        is_of(rt, alike, true, &("workers", workers));
+        equals(rt, one.last(), other.last());
+        send_the_same(rt, &exchange.tables, one, other);
     }
 }
 
 #[test]
 fn any_number_of_workers_gives_the_same(rt: HostRuntime) {
     let mut exchange = Exchange::new(&rt, rt.alloc(), 7, 10_000);
-    is_the_same(&rt, &mut exchange, 2);
-    is_the_same(&rt, &mut exchange, 3);
-    is_the_same(&rt, &mut exchange, 16);
+    for workers in [2, 3, 16] {
+        is_the_same(&rt, &mut exchange, workers);
+    }
 }

@@ -8,10 +8,8 @@ use rs_start::configuration::{
     ConfigurationFault, Configured, Unconfigured, read_configuration_from,
 };
 use rs_texts::{Text, read_on};
-use std::alloc::Global;
 use std::io;
 use std::io::ErrorKind;
-use std::process::Abort;
 
 /// Two members.
 const GOOD: &str = "as = 64500\nidentifier = \"192.0.2.1\"\n\
@@ -48,26 +46,19 @@ impl Text for Told<'_> {
     }
 }
 
-/// Of a good text and one that fails in this way this fault is answered.
-fn is_at_fault(
-    rt: &impl Abort,
-    alloc: Global,
-    kind: ErrorKind,
-    fault: ConfigurationFault,
-    place: Option<usize>,
-) {
-    let texts = [Told::Octets(GOOD.as_bytes()), Told::Fails(kind)];
-    let read = read_of(read_configuration_from(alloc, &texts));
-    equals(rt, read, Err((fault, place)));
-}
-
+/// Of a good text and one that fails in some way this is answered.
 #[test]
 fn want_of_memory_is_no_fault_of_the_file(rt: HostRuntime) {
-    let memory = ConfigurationFault::Memory;
-    is_at_fault(&rt, rt.alloc(), ErrorKind::OutOfMemory, memory, None);
-    let unreadable = ConfigurationFault::Unreadable;
-    let denied = ErrorKind::PermissionDenied;
-    is_at_fault(&rt, rt.alloc(), denied, unreadable, Some(1));
+    let memory = (ConfigurationFault::Memory, None);
+    let unreadable = (ConfigurationFault::Unreadable, Some(1));
+    for (kind, fault) in [
+        (ErrorKind::OutOfMemory, memory),
+        (ErrorKind::PermissionDenied, unreadable),
+    ] {
+        let texts = [Told::Octets(GOOD.as_bytes()), Told::Fails(kind)];
+        let read = read_of(read_configuration_from(rt.alloc(), &texts));
+        equals(&rt, read, Err(fault));
+    }
 }
 
 /// Memory that is refused is told by this line, and this is the status to end with.
