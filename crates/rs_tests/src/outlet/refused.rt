@@ -13,12 +13,18 @@ const BEFORE: u32 = 600;
 
 const NOW: u32 = 900;
 
+impl Exchange {
+    /// The sender withdraws a prefix. Answers whether it had announced it.
+    fn withdraw(&mut self, rt: &impl Abort, prefix: Prefix) -> bool {
+        assert!(rt; SENDER < self.tables.clients());
+        self.tables.withdraw(SENDER, prefix)
+    }
+}
+
 /// The sender withdraws 50 prefixes from this one on.
 fn withdraw(rt: &impl Abort, exchange: &mut Exchange, first: u32) {
-    assert!(rt; SENDER < exchange.tables.clients());
     for n in first..first.saturating_add(50) {
-        let was_there = exchange.tables.withdraw(SENDER, prefix(rt, n));
-        is_so(rt, was_there, "it was announced");
+        is_so(rt, exchange.withdraw(rt, prefix(rt, n)), "it was announced");
     }
 }
 
