@@ -202,10 +202,10 @@ fn written<P: Pages>(
         let Some(page) = next else {
             return (text, pieces);
         };
+        piece.clear();
         let behind = pages.write(page, &mut piece).expect(rt, "memory");
         is_so(rt, !behind.is_cut(), "a whole page");
         put(rt, &mut text, piece.octets());
-        piece.clear();
         next = behind.page();
     }
     (text, 10_000)

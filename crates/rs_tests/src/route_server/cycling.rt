@@ -54,7 +54,8 @@ fn cycle(rt: &impl Abort, exchange: &mut Exchange, first: u32) {
 fn cycled_prefixes_make_no_table_grow(rt: HostRuntime) {
     let mut exchange = Exchange::of_both(&rt, rt.alloc(), "");
     for round in 0..20u32 {
-        cycle(&rt, &mut exchange, 0x0a_0000 + round * EACH);
+        let first = round.wrapping_mul(EACH).wrapping_add(0x0a_0000);
+        cycle(&rt, &mut exchange, first);
     }
     // Two rounds' prefixes may have numbers at once: a number is given up after the turn.
     is_so(&rt, exchange.core.rows() <= 2 * EACH as usize, "few rows");
