@@ -37,6 +37,11 @@ fn routes_are_listed_in_order(rt: HostRuntime) {
         are_candidates(&rt, alloc, &ins, *of, want);
     }
     are_held(&rt, alloc, &ins, &BY_ALL);
+    // 10.0.0.0/9 is between 10.0.0.0/8 and 10.0.0.0/16
+    let between = prefix(&rt, (0x0a00_0000, 9));
+    assert!(&rt; 0 < ins.clients());
+    let first = ins.held_from(0, between).next().map(|it| it.0);
+    equals(&rt, first, Some(prefix(&rt, INNER)));
     let_go(ins);
 }
 

@@ -24,9 +24,13 @@ fn tables_are(
     assert!(rt; c < core.clients());
     equals(rt, (core.received_count(c), core.routes_count(c)), counts);
     let from = prefix(rt, from, 24);
-    let received = core.received_from(c, from).next();
-    let due = core.routes_from(c, from).next();
-    let bits = (received.map(|it| it.0.bits()), due.map(|it| it.0.bits()));
+    let mut bits = (None, None);
+    for (prefix, _) in core.received_from(c, from).take(1) {
+        bits.0 = Some(prefix.bits());
+    }
+    for (prefix, _) in core.routes_from(c, from).take(1) {
+        bits.1 = Some(prefix.bits());
+    }
     equals(rt, bits, first);
 }
 
