@@ -11,6 +11,7 @@ ghost use Rattle.rs_live.specs.Sending.{Broke, Sent};
 
 use crate::outbox::Outbox;
 use crate::ports::Ports;
+use crate::requests::Requests;
 use rs_policy::Config;
 use rs_reports::offers::Offered;
 use std::alloc::{AllocError, Global};
@@ -229,6 +230,8 @@ pub struct ClientConnections {
     pub began: u64,
     pub was_short: bool,
     pub rests_to: u64,
+    /// How often it asks for all its routes again.
+    requests: Requests,
 }
 
 impl ClientConnections {
@@ -251,6 +254,7 @@ impl ClientConnections {
             began: 0,
             was_short: false,
             rests_to: 0,
+            requests: Requests::new(),
         })
     }
 
@@ -266,6 +270,7 @@ impl ClientConnections {
         self.is_silent = true;
         self.offered = None;
         self.began = now;
+        self.requests.begin();
     }
 
     /// The connection has ended: where it was short, as the one before was, the next one rests.
@@ -289,6 +294,15 @@ impl ClientConnections {
     {
         if mem::replace(&mut self.is_silent, false) {
             self.offered = Offered::at_front(octets);
+        }
+    }
+
+    /// Where these octets ask for all its routes too often, the client rests.
+    pub(crate) fn pace(&mut self, octets: &[u8], now: u64)
+        ensures { held_in self.new ≡ held_in self.old }
+    {
+        if let Some(rests_to) = self.requests.hear(octets, now) {
+            self.rests_to = rests_to;
         }
     }
 

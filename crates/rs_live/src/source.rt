@@ -166,8 +166,10 @@ impl<'a, P: Ports> LiveLink<'a, P> {
         self.has_heard = true;
         self.pieces = self.pieces.saturating_add(1);
         self.octets_heard = self.octets_heard.saturating_add(octets.len());
+        let now = self.phase.clock;
         if let Some(own) = self.connections.get_mut(c) {
             own.hear(octets);
+            own.pace(octets, now);
         }
     }
 

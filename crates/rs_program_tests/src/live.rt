@@ -5,6 +5,7 @@ mod orders;
 mod recording;
 mod reloading;
 mod reports;
+mod requesting;
 mod resting;
 mod rounds;
 mod script;
