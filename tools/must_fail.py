@@ -6,8 +6,9 @@ must_fail.py [--unchanged] [CRATE | CRATE/NAME ..]
 must-fail/CRATE has edits, NAME.edit: a line `file:` and pairs of lines `old:` and `new:`, as those of attacks/, and a
 line `function:`, which names a function whose contract the edited crate breaks. This function, with those that it calls, is
 checked in an edited copy of the crate, over the libraries that `rt ci` left in crates/*/out: so an edit costs a check of
-a few functions, and not one of the crate. It is refused where the prover says that this very function is not proved. That it is proved
-without the edit, `rt ci` says of the whole crate; `--unchanged` says it of the functions alone.
+a few functions, and not one of the crate. It is refused where the prover says that this very function is not proved, and not
+only since a proof names what is no longer there. That it is proved without the edit, `rt ci` says of the whole crate;
+`--unchanged` says it of the functions alone.
 
 The last line is 'N passed, M failed'; the exit status is 0 where nothing failed. It writes nothing in the repository.
 """
@@ -25,6 +26,9 @@ from results import end, tell
 
 TOP = pathlib.Path(__file__).resolve().parent.parent
 EDITS = TOP / "must-fail"
+
+# What is said of a proof that names something which the edited function no longer has.
+GONE = re.compile(r"^proofs/.*(has no field|is not in scope|has no `)")
 
 # An edit: its crate, its name, the function that it breaks, and each file with the pairs of texts to change in it.
 Edit = collections.namedtuple("Edit", "crate name function changes")
@@ -123,6 +127,9 @@ def edited_wrong(edit, kit):
     name = re.escape(edit.function)
     if not re.search(rf"^fn {edit.crate}::(\S*::)?{name}: no(t proved| proof)", said, re.MULTILINE):
         return f"the prover does not say that {edit.function} is not proved: {said.strip()[-300:]}"
+    faults = re.findall(r"^(?:note: )?(?:\./)?((?:src|specs|proofs)/\S+:\d+:\d+: .*)", said, re.MULTILINE)
+    if faults and all(GONE.search(it) for it in faults):
+        return f"refused only since a proof names what the edit took away: {faults[0]}"
     return None
 
 

@@ -10,7 +10,7 @@ use rs_live::ports::Line;
 use rs_live::serve::{Limits, ServeFault, serve};
 use rs_octets::Notification;
 use rs_open::Short;
-use rs_reports::logging::Level;
+use rs_reports::logging::{Level, Log};
 use rs_reports::offers::Offered;
 use rs_reports::reports::{Holder, Report};
 use std::alloc::Global;
@@ -223,7 +223,10 @@ fn strangers_and_second_connections_are_closed(rt: HostRuntime) {
 #[test]
 fn what_goes_wrong_alone_is_told(rt: HostRuntime) {
     let mut ports = exchange(&rt, rt.alloc());
-    ports.log.level = Some(Level::Error);
+    ports.log = Log {
+        level: Some(Level::Error),
+        has_utc: false,
+    };
     served(&rt, rt.alloc(), &mut ports, TWO_SESSIONS);
     is(&rt, ports.reports.len(), 2, "reports");
     for report in &ports.reports {
