@@ -5,7 +5,7 @@ ghost use Rattle.std.specs.Prelude.{◌≡◌, ◌≤◌, ◌<◌, ◌++◌, ◌
 ghost use Rattle.rs_live.specs.Calls.{Call};
 ghost use Rattle.rs_live.specs.declared.live_link.Phase.{Phase};
 ghost use Rattle.rs_live.specs.Handled.{Has, AreKept};
-ghost use Rattle.rs_live.specs.Keeping.{Held, change, held_by, held_in, held_of, nothing, with_rest};
+ghost use Rattle.rs_live.specs.Keeping.{Held, change, held_by, held_in, held_of, nothing, with_live, with_rest};
 ghost use Rattle.rs_reports.specs.Offers.{IsOffered};
 ghost use Rattle.rs_live.specs.Sending.{Broke, Sent};
 
@@ -89,6 +89,14 @@ impl Connection {
     /// There is no room left.
     pub fn is_full(&self) -> bool {
         self.out.is_full()
+    }
+
+    /// It is handed few octets in a round from now on, or as many as there is room for.
+    pub fn narrow(&mut self, takes_few: bool)
+        ensures key { self.new.key ≡ self.old.key }
+        ensures out { self.new.out ≡ self.old.out }
+    {
+        self.out.narrow(takes_few);
     }
 
     /// It is to be closed once nothing waits.
@@ -304,6 +312,19 @@ impl ClientConnections {
         if let Some(rests_to) = self.requests.hear(octets, now) {
             self.rests_to = rests_to;
         }
+    }
+
+    /// Hands octets to its connection, as much as there is room for, and answers how many: few while it asks for
+    /// all its routes again.
+    pub(crate) fn offer(&mut self, octets: &[u8], now: u64) -> usize
+        ensures count { result ≤ length octets.now }
+        ensures some { self.old.live.out ≡ [] → result ≡ 0 → octets.now ≡ [] }
+        ensures key { self.new.live.key ≡ self.old.live.key }
+        ensures behind { self.new.live.out ≡ self.old.live.out ++ take result octets.now }
+        ensures held { held_in self.new ≡ with_live self.new.live.key self.new.live.out (held_in self.old) }
+    {
+        self.live.narrow(self.requests.asks(now));
+        self.live.offer(octets, now)
     }
 
     /// Its address, and how many connections beside its own were closed since the last call; `None` where

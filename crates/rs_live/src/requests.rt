@@ -5,13 +5,13 @@ use rs_octets::Kind;
 use std::mem;
 
 /// For so many seconds a client's requests are counted together.
-pub const COUNTED: u64 = 60;
+const COUNTED: u64 = 60;
 
 /// So many pieces with requests in that time are free.
-pub const FREE: u32 = 2;
+const FREE: u32 = 1;
 
 /// For how many seconds a client rests after each further one.
-pub const CALM: u64 = 10;
+const CALM: u64 = 10;
 
 /// How many octets a message's marker has, and its header, whose last one is the type (RFC 4271, 4.1).
 const MARKER: usize = 16;
@@ -67,6 +67,11 @@ impl Requests {
         } else {
             None
         }
+    }
+
+    /// Whether it has asked in the time in which its requests are counted.
+    pub(crate) fn asks(&self, now: u64) -> bool {
+        self.count > 0 && now.saturating_sub(self.since) < COUNTED
     }
 
     /// Whether the type of a request stands in these octets.

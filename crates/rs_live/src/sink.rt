@@ -58,7 +58,7 @@ impl<'a, P: Ports> LiveLink<'a, P> {
         if !own.live.is_open() {
             return 0;
         }
-        own.live.offer(octets, self.phase.told)
+        own.offer(octets, self.phase.told)
     }
 
     /// The connection of a client goes where one that is being closed has its place; an earlier one

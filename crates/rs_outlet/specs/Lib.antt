@@ -3,4 +3,5 @@ pub mod Decided
 pub mod Pending
 pub mod Message
 pub mod Inside
+pub mod Places
 pub mod Listing

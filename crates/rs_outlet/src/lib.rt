@@ -24,6 +24,7 @@ mod fill;
 pub mod laws;
 mod noting;
 mod outlet;
+mod place;
 mod queries;
 mod routes;
 mod rows;

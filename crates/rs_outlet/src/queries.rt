@@ -66,10 +66,7 @@ impl Outlet {
     {
         match ins.number(*prefix) {
             None => None,
-            Some(number) => match self.rows.get(number) {
-                None => None,
-                Some(row) => Some(&row.attrs),
-            },
+            Some(number) => self.rows.attrs(number),
         }
     }
 

@@ -46,8 +46,8 @@ fn next_route<'a>(
     ensures { YieldsFirstBy (λ route. (route.0, arc_value route.1.now)) (routes_at rows.now.rows.items) numbers.old result numbers.new }
 {
     while let Some((prefix, number)) = numbers.next() {
-        if let Some(row) = rows.get(number) {
-            return Some((prefix, &row.attrs));
+        if let Some(attrs) = rows.attrs(number) {
+            return Some((prefix, attrs));
         }
     }
     None

@@ -1,9 +1,11 @@
 //! The Loc-RIB of a client: a row for each number that the Adj-RIBs-In gave to a prefix.
 
-ghost use Rattle.std.specs.Prelude.{◌≡◌, ◌≤◌, ◌<◌, ◌+◌, ℕ, [], Some, None, IfOk, OnOk, length, vec_len, slice_set, option_copied, option_map};
+ghost use Rattle.std.specs.Prelude.{◌≡◌, ◌≤◌, ◌<◌, ◌+◌, ℕ, [], Some, None, IfOk, IsTrue, OnOk, length, vec_len, slice_set, option_map};
 ghost use Rattle.std.specs.Arc.{arc_value};
-ghost use Rattle.rs_outlet.specs.Inside.{row_at, shown, loc_of, numbers_from};
+ghost use Rattle.rs_outlet.specs.Inside.{IsOwn, attributes_at, row_at, shown, loc_of, numbers_from};
+ghost use Rattle.rs_outlet.specs.Places.{lent_row};
 
+use crate::place::{Lent, Place};
 use crate::table::Rows;
 use rs_attrs::Attrs;
 use rs_octets::Prefix;
@@ -51,19 +53,39 @@ impl Rows {
     }
 
     /// The row of a number, where it has a route.
-    pub(crate) fn get(&self, number: u32) -> Option<&Row>
-        ensures { option_copied result ≡ row_at self.now.rows.items number }
+    pub(crate) fn get(&self, number: u32) -> Option<Lent<'_>>
+        ensures { option_map lent_row result ≡ row_at self.now.rows.items number }
     {
         self.at(number as usize)
     }
 
     /// The row at an index, where it has a route.
-    pub(crate) fn at(&self, index: usize) -> Option<&Row>
-        ensures { option_copied result ≡ row_at self.now.rows.items index }
+    pub(crate) fn at(&self, index: usize) -> Option<Lent<'_>>
+        ensures { option_map lent_row result ≡ row_at self.now.rows.items index }
     {
         match self.rows.get(index) {
-            Some(row) => row.as_ref(),
+            Some(place) => place.row(),
             None => None,
+        }
+    }
+
+    /// What is due by the row of a number.
+    pub(crate) fn attrs(&self, number: u32) -> Option<&Arc<Attrs>>
+        ensures { option_map (λ attrs. arc_value attrs.now) result ≡ attributes_at self.now.rows.items number }
+    {
+        match self.get(number) {
+            Some(row) => Some(row.attrs),
+            None => None,
+        }
+    }
+
+    /// Whether the row of a number is free or has this prefix.
+    pub(crate) fn is_own(&self, number: u32, prefix: &Prefix) -> bool
+        ensures { IsTrue result → IsOwn (row_at self.now.rows.items number) prefix.now }
+    {
+        match self.get(number) {
+            Some(row) => row.prefix == *prefix,
+            None => true,
         }
     }
 
@@ -81,7 +103,7 @@ impl Rows {
         let more = count.saturating_sub(self.rows.len());
         self.rows.reserve(more)?;
         for _ in 0..more {
-            self.rows.push_reserved(None);
+            self.rows.push_reserved(Place::free());
         }
         Ok(())
     }
@@ -96,9 +118,9 @@ impl Rows {
     {
         match self.rows[number as usize].take() {
             None => None,
-            Some(row) => {
+            Some(attrs) => {
                 self.used -= 1;
-                Some(row.attrs)
+                Some(attrs)
             }
         }
     }
@@ -111,7 +133,7 @@ impl Rows {
         ensures room { vec_len self.new.rows ≡ vec_len self.old.rows }
         ensures used { self.new.used ≡ self.old.used + 1 }
     {
-        self.rows[number as usize] = Some(Row { prefix, attrs });
+        self.rows[number as usize] = Place::of(Row { prefix, attrs });
         self.used += 1;
     }
 }

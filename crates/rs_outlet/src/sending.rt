@@ -219,7 +219,7 @@ fn put_update(
     let Some(row) = waits.row_for(rows, first) else {
         return NOTHING;
     };
-    put_news(rows, waits, &row.attrs, speech, chosen, front, out)
+    put_news(rows, waits, row.attrs, speech, chosen, front, out)
 }
 
 impl Outlet {

@@ -2,12 +2,12 @@
 
 ghost use Rattle.std.specs.Prelude.{◌≡◌, ◌≤◌, is_some, count_by, vec_len};
 
-use crate::rows::Row;
+use crate::place::Place;
 
 /// A row for each number; a free one has no route.
 #[derive(Drop)]
 pub(crate) struct Rows {
-    pub(crate) rows: Vec<Option<Row>>,
+    pub(crate) rows: Vec<Place>,
     /// How many rows have a route.
     pub(crate) used: usize,
     ghost counted: { count_by is_some rows.items ≡ used },

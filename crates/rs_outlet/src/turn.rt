@@ -1,6 +1,7 @@
 //! A turn: what is touched is decided anew, and what the client was not told so waits.
 
-ghost use Rattle.std.specs.Prelude.{◌≡◌, Option, None, Some, true, false, nat_eq, nat_lt, count_by, option_copied, option_map, length, if◌then◌else◌, IsTrue, IfOk, OnOk, OnErr};
+ghost use Rattle.std.specs.Prelude.{◌≡◌, Option, None, Some, true, false, nat_eq, nat_lt, count_by, option_map, length, if◌then◌else◌, IsTrue, IfOk, OnOk, OnErr};
+ghost use Rattle.std.specs.Arc.{arc_value};
 ghost use Rattle.std.specs.List.{IsDistinct};
 ghost use Rattle.std.specs.Map.{keys_of};
 ghost use Rattle.std.specs.FinMap as fin;
@@ -12,7 +13,7 @@ ghost use Rattle.rs_outlet.specs.Decided.Turns.{IsCurrent};
 ghost use Rattle.rs_outlet.specs.Decided.Due.{any_holds, due_to};
 ghost use Rattle.rs_outlet.specs.Decided.Counted.{is_counted, is_left, is_standing};
 ghost use Rattle.rs_outlet.specs.Decided.HeldBy.{held_by, AreOfOneServer};
-ghost use Rattle.rs_outlet.specs.Inside.{AreDecided, AreFresh, IsDecidedAt, IsOwn, shown};
+ghost use Rattle.rs_outlet.specs.Inside.{AreDecided, AreFresh, IsDecidedAt};
 ghost use Rattle.rs_outlet.specs.Decided.Touching.{is_number_touched, is_numbered_in, touched_of};
 ghost use Rattle.rs_outlet.specs.Decided.Passing.{attributes_passed};
 
@@ -20,11 +21,12 @@ use crate::answers::{Last, Speech, Turned};
 use crate::changes::{Change, commit, make_room};
 use crate::deciding::{Draft, Passed, Sources, decide};
 use crate::outlet::Outlet;
-use crate::rows::Row;
 use crate::table::Rows;
 use crate::touched::{TOUCHED_MAX, Touched};
+use rs_attrs::Attrs;
 use rs_octets::Prefix;
 use std::alloc::{AllocError, Global};
+use std::sync::Arc;
 
 /// The changes of a turn, how many prefixes were decided, and whether all were.
 #[derive(Drop)]
@@ -35,23 +37,13 @@ pub(crate) struct Decided {
 }
 
 /// Whether a row has just what is due.
-fn is_due(row: Option<&Row>, due: Option<&Passed<'_>>) -> bool
-    ensures { IsTrue result → shown (option_copied row.entry) ≡ option_map (λ passed. attributes_passed passed.now) due.entry }
+fn is_due(row: Option<&Arc<Attrs>>, due: Option<&Passed<'_>>) -> bool
+    ensures { IsTrue result → option_map (λ attrs. arc_value attrs.now) row.entry ≡ option_map (λ passed. attributes_passed passed.now) due.entry }
 {
     match (row, due) {
         (None, None) => true,
-        (Some(row), Some(due)) => row.attrs == *due.attrs(),
+        (Some(row), Some(due)) => row == due.attrs(),
         _ => false,
-    }
-}
-
-/// Whether a row is free or has this prefix.
-fn is_own(row: Option<&Row>, prefix: &Prefix) -> bool
-    ensures { IsTrue result → IsOwn (option_copied row.entry) prefix.now }
-{
-    match row {
-        None => true,
-        Some(row) => row.prefix == *prefix,
     }
 }
 
@@ -72,11 +64,10 @@ fn decide_one<'a>(
     ensures { OnOk result (IsDecidedAt sources.now.ins.now (due_to (held_by sources.now) sources.now.client speech) rows.now.rows.items number changes.old.items changes.new.items) }
 {
     let due = decide(alloc, sources, speech, number, &prefix, draft)?;
-    let row = rows.get(number);
-    if is_due(row, due.as_ref()) {
+    if is_due(rows.attrs(number), due.as_ref()) {
         return Ok(());
     }
-    if !is_own(row, &prefix) {
+    if !rows.is_own(number, &prefix) {
         return Err(AllocError);
     }
     let due = match due {

@@ -48,16 +48,16 @@ pub(crate) enum Due {
     Announced { number: u32, hash: u32 },
 }
 
-/// A prefix that waits.
+/// A prefix that waits. Its fields lie so that it takes 40 octets.
 #[derive(Drop)]
 pub(crate) struct Wait {
     pub(crate) prefix: Prefix,
     pub(crate) due: Due,
-    pub(crate) told: Told,
     /// It is to be told again, even if what was told becomes due.
     pub(crate) marked: bool,
     /// It waits still.
     pub(crate) open: bool,
+    pub(crate) told: Told,
 }
 
 /// What waits, in two parts by rising prefix. A prefix waits at one slot; another one of it in the other

@@ -50,8 +50,7 @@ fn key_at(exact: bool, ins: &AdjIns, rows: &Rows, number: u32, hash: u32) -> Opt
     if !exact {
         return Some(hash);
     }
-    let row = rows.get(number)?;
-    match ins.set_by(number, &row.attrs) {
+    match ins.set_by(number, rows.attrs(number)?) {
         Ok(Some(set)) => Some(set),
         Ok(None) => Some(NO_SET),
         Err(_) => None,
@@ -120,10 +119,7 @@ fn due_at<'a>(rows: &'a Rows, slots: &[Wait], entry: &Keyed) -> Option<&'a Arc<A
     let Due::Announced { number, .. } = wait.due else {
         return None;
     };
-    match rows.get(number) {
-        None => None,
-        Some(row) => Some(&row.attrs),
-    }
+    rows.attrs(number)
 }
 
 /// The order of what is due at two slots.

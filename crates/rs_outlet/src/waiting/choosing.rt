@@ -1,6 +1,6 @@
 //! Which slots the next UPDATE is about, and that they wait no more once it is begun.
 
-ghost use Rattle.std.specs.Prelude.{◌≡◌, ◌≤◌, ◌<◌, ◌++◌, ◌∷◌, ◌⊎◌, [], IfSome, ℕ, length, take, true, List, Option, None, Some, false, IsTrue, vec_len, option_copied, slice_get, if◌then◌else◌};
+ghost use Rattle.std.specs.Prelude.{◌≡◌, ◌≤◌, ◌<◌, ◌++◌, ◌∷◌, ◌⊎◌, [], IfSome, ℕ, length, take, true, List, Option, None, Some, false, IsTrue, vec_len, option_map, slice_get, if◌then◌else◌};
 ghost use Rattle.std.specs.List.{AllWithin, HoldsAt, list_any};
 ghost use Rattle.std.specs.Ordering.{eq_by_cmp};
 ghost use Rattle.std.specs.Vec.{vec_capacity};
@@ -12,8 +12,9 @@ ghost use Rattle.rs_outlet.specs.Pending.Slots.{IsShut, open_at, is_withdrawal, 
 ghost use Rattle.rs_outlet.specs.Pending.Choosing.{HasRow, HaveRoom, IsChosen, IsLeast, IsLesser, AreChosen, WaitsFor, passing, shares};
 ghost use Rattle.rs_outlet.specs.Inside.{AreBacked, AreChained, IsBacked, row_by, shown};
 ghost use Rattle.rs_outlet.specs.Message.Next.{has_attributes};
+ghost use Rattle.rs_outlet.specs.Places.{lent_row};
 
-use crate::rows::Row;
+use crate::place::Lent;
 use crate::table::Rows;
 use crate::waiting::{Due, Wait, Waits};
 use rs_attrs::Attrs;
@@ -138,9 +139,9 @@ impl Waits {
     }
 
     /// The row of what is due at a slot.
-    pub(crate) fn row_for<'a>(&self, rows: &'a Rows, slot: usize) -> Option<&'a Row>
+    pub(crate) fn row_for<'a>(&self, rows: &'a Rows, slot: usize) -> Option<Lent<'a>>
         requires { slot < vec_len self.now.slots }
-        ensures { HoldsAt (λ w. option_copied result ≡ row_by rows.now.rows.items w.due) self.now.slots.items slot }
+        ensures { HoldsAt (λ w. option_map lent_row result ≡ row_by rows.now.rows.items w.due) self.now.slots.items slot }
     {
         match self.slots[slot].due {
             Due::Withdrawn => None,
@@ -346,5 +347,5 @@ fn waits_for(rows: &Rows, wait: &Wait, attrs: &Attrs) -> bool
     if row.prefix != wait.prefix {
         return false;
     }
-    *row.attrs == *attrs
+    **row.attrs == *attrs
 }

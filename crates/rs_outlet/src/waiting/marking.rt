@@ -11,9 +11,10 @@ ghost use Rattle.rs_outlet.specs.Pending.Slots.{AreApart, open_at, prefixes_at, 
 ghost use Rattle.rs_outlet.specs.Pending.Parts.{AreParts};
 ghost use Rattle.rs_outlet.specs.Inside.{AreBacked, loc_of, row_at};
 ghost use Rattle.rs_outlet.specs.declared.rows.Row.{Row};
+ghost use Rattle.rs_outlet.specs.Places.{lent_row};
 ghost use Rattle.rs_outlet.specs.Pending.Marking.{AreReopened, IsAgain, IsOfRow, MayAddRow, MayBeReopened, MayReopen, MayWaitAgain, is_told, remarked};
 
-use crate::rows::Row;
+use crate::place::Lent;
 use crate::table::Rows;
 use crate::waiting::parts::{drop_shut, open_in};
 use crate::waiting::{Due, Told, Wait, Waits, count_open, put_in_order};
@@ -142,7 +143,7 @@ fn add_rows(slots: &mut Vec<Wait>, rows: &Rows)
     let waited = slots.len();
     for slot in 0..rows.count() {
         if let Some(row) = rows.at(slot) {
-            add_row(slots, waited, slot as u32, row);
+            add_row(slots, waited, slot as u32, &row);
         }
     }
     put_in_order(slots);
@@ -159,10 +160,10 @@ fn mark_told(slots: &mut Vec<Wait>)
 }
 
 /// Adds a slot for the row of a number, where its prefix stands at none of the first slots.
-fn add_row(slots: &mut Vec<Wait>, waited: usize, number: u32, row: &Row)
+fn add_row(slots: &mut Vec<Wait>, waited: usize, number: u32, row: &Lent<'_>)
     requires waited { waited ≤ vec_len slots.old }
     requires rises { IsStrictlySortedBy prefix_order (prefixes_at (take waited slots.old.items)) }
-    ensures again { MayAddRow (take waited slots.old.items) number row.now slots.old.items slots.new.items }
+    ensures again { MayAddRow (take waited slots.old.items) number (lent_row row.now) slots.old.items slots.new.items }
     ensures listed { vec_len slots.old < vec_capacity slots.old → list_any (eq_by_cmp prefix_order row.now.prefix) (prefixes_at slots.new.items) ≡ true }
     ensures capacity { vec_capacity slots.new ≡ vec_capacity slots.old }
 {
@@ -176,8 +177,8 @@ fn add_row(slots: &mut Vec<Wait>, waited: usize, number: u32, row: &Row)
 }
 
 /// The slot at which what the row of a number has is told again.
-fn wait_of_row(number: u32, row: &Row) -> Wait
-    ensures { IsOfRow number row.now result }
+fn wait_of_row(number: u32, row: &Lent<'_>) -> Wait
+    ensures { IsOfRow number (lent_row row.now) result }
 {
     Wait {
         prefix: row.prefix,
@@ -202,11 +203,13 @@ fn wait_again(rows: &Rows, wait: &Wait) -> Option<Wait>
     let Due::Announced { number, .. } = wait.due else {
         return None;
     };
-    let row = rows.get(number)?;
+    let Some(row) = rows.get(number) else {
+        return None;
+    };
     if row.prefix != wait.prefix {
         return None;
     }
-    Some(wait_of_row(number, row))
+    Some(wait_of_row(number, &row))
 }
 
 /// A slot of the first part waits again, where what was told there is due and its prefix doesn't wait in the

@@ -77,6 +77,20 @@ fn a_message_is_begun_with_an_octet(rt: HostRuntime) {
     is(&rt, out.waiting(), &KEEPALIVE[1..], "what waits");
 }
 
+#[test]
+fn few_octets_are_taken_of_an_answer(rt: HostRuntime) {
+    let mut out = Outbox::new(rt.alloc()).expect(&rt, "an outbox");
+    let whole = Vec::from_elem(rt.alloc(), 7, 16_384).expect(&rt, "octets");
+    out.narrow(true);
+    is(&rt, out.put(&whole), 2048, "octets put in");
+    is(&rt, out.is_full(), true, "whether it is full");
+    out.narrow(false);
+    is(&rt, out.put(&whole), 14_336, "octets put in");
+    out.narrow(true);
+    is(&rt, out.put(&whole), 0, "octets put in");
+    is(&rt, out.waiting().len(), 16_384, "octets that wait");
+}
+
 /// A file that takes so many octets, ten at a time, and then none.
 #[derive(Drop)]
 struct SmallFile<'a> {

@@ -1,14 +1,14 @@
 use Rattle.std.proofs.Common.{◌≡◌, ℕ, ◌==◌, Bool, true, false, not, ◌||◌, is_some, Option, None, Some, List, [], ◌∷◌, length, inl, refl, sym, ap, ◌∙◌, arith}
 use mathlib.Core.Bool.{true≢false}
-use Rattle.std.specs.Prelude.{option_copied}
-use Rattle.std.specs.Borrow.{Bor}
+use Rattle.std.specs.Prelude.{option_map}
 use Rattle.std.specs.List.{list_any}
 use Rattle.std.proofs.lemmas.Bool.Decides.{nat_tests}
 use Rattle.rs_attrs.specs.Meaning.{Attribute}
 use Rattle.rs_outlet.specs.Decided.Due.{any_holds}
 use Rattle.rs_outlet.specs.Decided.HeldBy.{held_by}
 use Rattle.rs_outlet.specs.Inside.{attributes_at, shown}
-use Rattle.rs_outlet.specs.declared.rows.Row.{Row}
+use Rattle.rs_outlet.specs.declared.place.Lent.{Lent}
+use Rattle.rs_outlet.specs.Places.{lent_row}
 use Rattle.rs_outlet.proofs.Decided.Numbering.{no_elements, number_back, number_there}
 use Rattle.rs_outlet.proofs.Decided.Ranks.{due_unheld, sent}
 use Rattle.rs_outlet.proofs.turn.decide_number.Goals as goal
@@ -21,7 +21,7 @@ pub returns-in_default-clause-changes : goal.returns-in_default-clause-changes
 returns-in_default-clause-changes c =
     inl (refl, λ p at. absurd (let f : None ≡ Some p = sym c.in_default.is ∙ c.prefix.ensures ∙ number_there c.args.sources.now.ins.now p c.args.number at in (cc)))
 
-shown_none : (r : Option (Bor Row)) → is_some r ≡ false → shown (option_copied r) ≡ None
+shown_none : (r : Option Lent) → is_some r ≡ false → shown (option_map lent_row r) ≡ None
 shown_none None h = refl
 shown_none (Some row) h = absurd (true≢false h)
 
@@ -41,9 +41,9 @@ pub returns-in_default-clause-standing : goal.returns-in_default-clause-standing
 returns-in_default-clause-standing c = λ p at.
     absurd (let f : None ≡ Some p = sym c.in_default.is ∙ c.prefix.ensures ∙ number_there c.args.sources.now.ins.now p c.args.number at in (cc))
 
-some_copied : (r : Option (Bor Row)) → is_some r ≡ true → is_some (option_copied r) ≡ true
-some_copied None h = absurd (true≢false (sym h))
-some_copied (Some row) h = refl
+some_lent : (r : Option Lent) → is_some r ≡ true → is_some (option_map lent_row r) ≡ true
+some_lent None h = absurd (true≢false (sym h))
+some_lent (Some row) h = refl
 
 any_of : (holders : List ((ℕ × List Attribute) × ℕ)) → (length holders == 0) ≡ false → list_any (λ h. true) (sent holders) ≡ true
 any_of [] none = absurd (true≢false none)
@@ -58,7 +58,7 @@ returns-clause-standing c = λ p at.
     let t = held_by c.args.sources.now in
     elim c.else-is_empty.branch [
       | else-is_empty-via-then-is_empty+else-is_none w ↦
-          sym (ap (λ b. b || any_holds t p) (ap is_some (sym w.get.ensures) ∙ some_copied w.get.result (w.is_none.ensures ∙ ap not w.if-is_none.false)))
+          sym (ap (λ b. b || any_holds t p) (ap is_some (sym w.get.ensures) ∙ some_lent w.get.result (w.is_none.ensures ∙ ap not w.if-is_none.false)))
       | else-is_empty-via-else-is_empty w ↦
           or_true _ (any_holds t p)
           (ap (list_any (λ h. true)) (sym (c.at_number.ensures.holders p at).all) ∙ any_of c.at_number.result (sym c.is_empty.ensures ∙ w.if-is_empty.false))

@@ -4,7 +4,7 @@ use Rattle.std.specs.Borrow.{Bor}
 use Rattle.rs_outlet.specs.Decided.Due.{due_to}
 use Rattle.rs_outlet.specs.Decided.HeldBy.{held_by}
 use Rattle.rs_outlet.specs.Decided.Passing.{attributes_passed}
-use Rattle.rs_outlet.specs.Inside.{attributes_at, shown}
+use Rattle.rs_outlet.specs.Inside.{attributes_at}
 use Rattle.rs_outlet.proofs.Decided.Decisions.{decided_there}
 use Rattle.rs_outlet.proofs.Decided.Numbering.{number_once}
 use Rattle.rs_outlet.proofs.turn.decide_one.Goals as goal
@@ -21,6 +21,6 @@ returns-then-is_due c =
     let n = c.args.number in
     let p = c.args.prefix in
     let at : attributes_at rows n ≡ due_at p =
-    ap shown (sym c.get-row.ensures) ∙ c.is_due.ensures c.if-is_due.true ∙ map_copied attributes_passed c.as_ref.result
+    sym c.attrs.ensures ∙ c.is_due.ensures c.if-is_due.true ∙ map_copied attributes_passed c.as_ref.result
     ∙ ap (option_map attributes_passed) c.as_ref.ensures.value ∙ c.in_ok-due.ensures in
     decided_there ins due_at rows n p _ c.requires.number (λ q there. number_once ins q p n there c.requires.number) at

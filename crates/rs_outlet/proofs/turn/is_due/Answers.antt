@@ -1,15 +1,14 @@
 use Rattle.std.proofs.Common.{◌∙◌, ap, sym, Some}
-use Rattle.std.specs.Prelude.{option_copied, option_map}
+use Rattle.std.specs.Prelude.{option_map}
 use Rattle.std.specs.Arc.{arc_value}
 use Rattle.rs_attrs.specs.Comparing.{same_attributes}
 use Rattle.rs_attrs.specs.ComparisonLaws.{attributes_decides}
-use Rattle.rs_outlet.specs.Inside.{shown}
 use Rattle.rs_outlet.specs.Decided.Passing.{attributes_passed}
 use Rattle.rs_outlet.proofs.turn.is_due.Goals as goal
 
 pub returns-in-Some-Some : goal.returns-in-Some-Some
 returns-in-Some-Some c = λ t.
     let s = c.in-Some-Some in
-    ap (λ r. shown (option_copied r)) s.is-0
-    ∙ ap (λ m. Some m) ((attributes_decides (arc_value s.row.now.attrs) (attributes_passed s.due.now)).0 (ap (same_attributes (arc_value s.row.now.attrs)) (sym c.attrs.ensures) ∙ sym c.eq.ensures ∙ t))
+    ap (option_map (λ attrs. arc_value attrs.now)) s.is-0
+    ∙ ap (λ m. Some m) ((attributes_decides (arc_value s.row.now) (attributes_passed s.due.now)).0 (ap (same_attributes (arc_value s.row.now)) (sym c.attrs.ensures) ∙ sym c.eq.ensures ∙ t))
     ∙ ap (option_map _) (sym s.is-1)

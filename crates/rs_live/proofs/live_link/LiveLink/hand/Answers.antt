@@ -14,7 +14,7 @@ use Rattle.rs_live.proofs.live_link.LiveLink.hand.Goals as goal
 pub returns-clause-kept : goal.returns-clause-kept
 returns-clause-kept g c h =
     let was = (slice_get_read _ _ _ c.in-Some.own.now refl c.in-Some.ensures.item.3.0 c.in-Some.ensures.item.1) in
-    subst (λ held. Has g.P.Ports.asked c.args.self.now.ports.now (λ operations. AreKept held c.args.self.now.phase (Did (Offer c.args.c c.args.octets.now (Some c.offer.result)) ∷ operations))) (sym (held_changed (with_live c.offer.new.self.key c.offer.new.self.out) _ _ c.in-Some.own.now _ was refl))
+    subst (λ held. Has g.P.Ports.asked c.args.self.now.ports.now (λ operations. AreKept held c.args.self.now.phase (Did (Offer c.args.c c.args.octets.now (Some c.offer.result)) ∷ operations))) (sym (held_changed (with_live c.offer.new.self.live.key c.offer.new.self.live.out) _ _ c.in-Some.own.now _ was c.offer.ensures.held))
     (takes_more g.P.Ports.asked _ _ c.args.c c.offer.result c.args.octets.now _ _ _ _ _ (below_held c.args.self.now.connections.now.items c.args.c c.in-Some.ensures.item.3.0) (ap (λ x. x.key) (held_there c.args.self.now.connections.now.items c.args.c c.in-Some.own.now was)) (ap (λ x. x.waiting) (held_there c.args.self.now.connections.now.items c.args.c c.in-Some.own.now was)) c.offer.ensures.key (c.is_open.ensures.0 c.if-not-is_open.false) c.offer.ensures.behind c.offer.ensures.some h)
 
 pub returns-then-not-is_open-clause-kept : goal.returns-then-not-is_open-clause-kept

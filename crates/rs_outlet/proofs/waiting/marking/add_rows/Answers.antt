@@ -1,5 +1,5 @@
 use Rattle.std.proofs.Common.{◌≡◌, ◌≤◌, ◌+◌, List, ◌∙◌, true, map, take, sym, ap, subst, arith, Vec, Global}
-use Rattle.std.specs.Option.{option_copied}
+use Rattle.std.specs.Option.{option_map}
 use Rattle.std.specs.List.{All, AllByRecursion}
 use Rattle.std.specs.List.Sorted.{IsStrictlySortedBy}
 use Rattle.std.specs.Vec.{vec_capacity}
@@ -7,6 +7,7 @@ use Rattle.rs_octets.specs.Prefixes.{prefix_order}
 use Rattle.rs_outlet.specs.declared.waiting.Wait.{Wait}
 use Rattle.rs_outlet.specs.Pending.Slots.{prefixes_at, withdrawn_count}
 use Rattle.rs_outlet.specs.Inside.{IsBacked, loc_of}
+use Rattle.rs_outlet.specs.Places.{lent_row}
 use Rattle.rs_outlet.specs.Pending.Marking.{IsPutAgain, MayAddRow, remarked}
 use Rattle.rs_outlet.proofs.Message.Chosen.{take_past}
 use Rattle.rs_outlet.proofs.Pending.MarkedAgain.{backed_again, backed_first, marked_again, marked_first, marking_more, remarked_rise, AreMarking}
@@ -52,9 +53,9 @@ loop-slot-preserved c =
     let inv = c.loop-slot.invariant in
     elim c.match-at.branch [
       | in-Some w ↦
-          let row = w.in-Some.row.now in
+          let row = lent_row w.in-Some.row in
           let new = w.add_row.new.slots.items in
-          let at = sym c.at.ensures ∙ ap option_copied w.in-Some.is in
+          let at = sym c.at.ensures ∙ ap (option_map lent_row) w.in-Some.is in
           let may = w.add_row.ensures.again in
           record {
             marking = subst (λ (v : Vec Wait Global). AreMarking rows ws base n v.items) (sym w.slots-is) (marking_more rows k row ws base n xs new at first may inv.marking);
@@ -73,7 +74,7 @@ loop-slot-preserved c =
             listed = λ backed.
                 subst (λ (v : Vec Wait Global). AreListed rows base (k + 1) (vec_capacity c.args.slots.now) v.items) (sym w.slots-is)
                 (none_more_listed rows base k (vec_capacity c.args.slots.now) xs (omega (arith, c.loop-slot-test.true, c.count-slot-end.ensures, c.args.rows.now.rows.ok))
-                (sym c.at.ensures ∙ ap option_copied w.in_default.is) (inv.listed backed));
+                (sym c.at.ensures ∙ ap (option_map lent_row) w.in_default.is) (inv.listed backed));
             withdrawn = subst (λ (v : Vec Wait Global). withdrawn_count v.items ≤ withdrawn_count ws) (sym w.slots-is) inv.withdrawn;
             capacity = ap (λ (v : Vec Wait Global). vec_capacity v) w.slots-is ∙ inv.capacity;
           }
