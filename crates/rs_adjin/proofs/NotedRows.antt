@@ -95,7 +95,7 @@ noted_count f [] [] h = refl
 noted_count f [] (s ∷ new) h = absurd h
 noted_count f (r ∷ old) [] h = absurd h
 noted_count f (r ∷ old) (s ∷ new) h =
-    let one : one_of s ≡ one_of r = ap (λ rs. one_if (are_some rs)) h.0.routes ∙ ap one_if (some_notes f r.prefix r.routes.items) in
+    let one : one_of s ≡ one_of r = ap (λ rs. one_if (are_some rs)) h.0.routes ∙ ap one_if (some_notes f r.prefix r.routes) in
     let left : count_by has_routes (s ∷ new) ≡ one_of s + count_by has_routes new = sum_by-cons one_of s new in
     let right : count_by has_routes (r ∷ old) ≡ one_of r + count_by has_routes old = sum_by-cons one_of r old in
     omega (arith, one, left, right, noted_count f old new h.1)
@@ -115,14 +115,14 @@ row_uses_noted s f None rs = refl
 row_uses_noted s f (Some p) rs = uses_noted s (λ c m. f c p m) rs
 
 abbrev row_uses : ℕ → Row → ℕ
-row_uses s row = uses_of s row.routes.items
+row_uses s row = uses_of s row.routes
 
 pub noted_uses : (f : Giver) (s : ℕ) (old new : List Row) → RowsNote f old new → uses_in s new ≡ uses_in s old
 noted_uses f s [] [] h = refl
 noted_uses f s [] (t ∷ new) h = absurd h
 noted_uses f s (r ∷ old) [] h = absurd h
 noted_uses f s (r ∷ old) (t ∷ new) h =
-    let one : row_uses s t ≡ row_uses s r = ap (uses_of s) h.0.routes ∙ row_uses_noted s f r.prefix r.routes.items in
+    let one : row_uses s t ≡ row_uses s r = ap (uses_of s) h.0.routes ∙ row_uses_noted s f r.prefix r.routes in
     let left : uses_in s (t ∷ new) ≡ row_uses s t + uses_in s new = sum_by-cons (row_uses s) t new in
     let right : uses_in s (r ∷ old) ≡ row_uses s r + uses_in s old = sum_by-cons (row_uses s) r old in
     omega (arith, one, left, right, noted_uses f s old new h.1)

@@ -1,5 +1,5 @@
 -- The row of a prefix whose routes are written: what the table keeps, and how many rows have routes then.
-use Rattle.std.proofs.Common.{Bool, ◌≡◌, ◌+◌, ◌<◌, ◌==◌, ℕ, Some, Vec, Global, length, refl, sym, subst}
+use Rattle.std.proofs.Common.{Bool, ◌≡◌, ◌+◌, ◌<◌, ◌==◌, ℕ, Some, List, length, refl, sym, subst}
 use Rattle.std.specs.Prelude.{count_by, slice_index_or, slice_set, if◌then◌else◌}
 use Rattle.rs_octets.specs.Prefixes.{Prefix}
 use Rattle.rs_attrs.specs.Effects.{same_prefix}
@@ -18,22 +18,22 @@ use Rattle.rs_adjin.proofs.Used.{count_changed}
 pub number_within : (table : Numbered) (p : Prefix) (n : ℕ) → number_in table p ≡ Some n → n < length table.rows.items
 number_within table p n number = row_within table.rows.items n p (table.inverse.there p n number)
 
-pub row_rises : (table : Numbered) (p : Prefix) (n : ℕ) (r : Row) → IsTable table → IsRowOf table p n r → IsRising r.routes.items
+pub row_rises : (table : Numbered) (p : Prefix) (n : ℕ) (r : Row) → IsTable table → IsRowOf table p n r → IsRising r.routes
 row_rises table p n r is row = subst IsRising (sym row.here) (is.rising p)
 
-abbrev pub with_routes : Row → Vec Route Global → Row
+abbrev pub with_routes : Row → List Route → Row
 with_routes r routes = record { prefix = r.prefix; routes = routes }
 
 -- row n of a table, which is the one of a prefix, with these routes in place of its own
-pub record IsWritten (table : Numbered) (p : Prefix) (n : ℕ) (r : Row) (routes : Vec Route Global) : Type 0 where
-  pub here : r.routes.items ≡ routes_at table p
-  pub step : (q : Prefix) → routes_with table n (with_routes r routes) q ≡ (if same_prefix q p then routes.items else routes_at table q)
+pub record IsWritten (table : Numbered) (p : Prefix) (n : ℕ) (r : Row) (routes : List Route) : Type 0 where
+  pub here : r.routes ≡ routes_at table p
+  pub step : (q : Prefix) → routes_with table n (with_routes r routes) q ≡ (if same_prefix q p then routes else routes_at table q)
   pub inverse : IsInverse table.numbers (slice_set table.rows.items n (with_routes r routes))
   pub vacant : AreVacant (slice_set table.rows.items n (with_routes r routes))
-  pub used : (was is : Bool) (m k one two : ℕ) → was ≡ (m == 0) → is ≡ (k == 0) → m ≡ length r.routes.items → k ≡ length routes.items → one ≡ one_if was → two ≡ one_if is
+  pub used : (was is : Bool) (m k one two : ℕ) → was ≡ (m == 0) → is ≡ (k == 0) → m ≡ length r.routes → k ≡ length routes → one ≡ one_if was → two ≡ one_if is
       → count_by has_routes (slice_set table.rows.items n (with_routes r routes)) + two ≡ table.used + one
 
-pub row_written : (table : Numbered) (p : Prefix) (n : ℕ) (r : Row) (routes : Vec Route Global) → number_in table p ≡ Some n → r ≡ slice_index_or table.rows.items n r → IsWritten table p n r routes
+pub row_written : (table : Numbered) (p : Prefix) (n : ℕ) (r : Row) (routes : List Route) → number_in table p ≡ Some n → r ≡ slice_index_or table.rows.items n r → IsWritten table p n r routes
 row_written table p n r routes number is =
     let rows = table.rows.items in
     let row = row_of table p n r number is in

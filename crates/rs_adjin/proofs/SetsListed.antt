@@ -47,7 +47,7 @@ has_used s (r ∷ rs) (inr h) =
 -- ---- in a row
 
 abbrev row_uses : ℕ → Row → ℕ
-row_uses s row = uses_of s row.routes.items
+row_uses s row = uses_of s row.routes
 
 some_row : (s : ℕ) (rows : List Row) → 0 < uses_in s rows → (n : ℕ) × (0 < uses_of s (routes_in (slice_get rows n)))
 some_row s [] h = absurd (omega (arith, h))

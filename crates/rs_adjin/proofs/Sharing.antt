@@ -43,33 +43,33 @@ use_there rs i r below read =
 -- ---- in all rows
 
 abbrev row_uses : ℕ → Row → ℕ
-row_uses s row = uses_of s row.routes.items
+row_uses s row = uses_of s row.routes
 
 module _ (s : ℕ) (rows : List Row) (n : ℕ) (r : Row) (read : slice_get rows n ≡ Some r) where
   row_there : row_uses s (slice_index_or rows n r) ≡ row_uses s r
   row_there = ap (row_uses s) (get_or_from_slice_get rows n r r read)
 
-  pub row_within_all : uses_of s r.routes.items ≤ uses_in s rows
+  pub row_within_all : uses_of s r.routes ≤ uses_in s rows
   row_within_all =
       let le : row_uses s (slice_index_or rows n r) ≤ uses_in s rows = get_or-le-sum_by (row_uses s) rows n r (slice_get_within rows n r read) in
       omega (arith, row_there, le)
 
-  pub row_set : (new : Row) → uses_in s (slice_set rows n new) + uses_of s r.routes.items ≡ uses_in s rows + uses_of s new.routes.items
+  pub row_set : (new : Row) → uses_in s (slice_set rows n new) + uses_of s r.routes ≡ uses_in s rows + uses_of s new.routes
   row_set new =
       let all : uses_in s (slice_set rows n new) + row_uses s (slice_index_or rows n r) ≡ uses_in s rows + row_uses s new = sum_by-set (row_uses s) rows n new r (slice_get_within rows n r read) in
       omega (arith, row_there, all)
 
   -- the prefix alone is another
-  pub row_renamed : (new : Row) → new.routes.items ≡ r.routes.items → uses_in s (slice_set rows n new) ≡ uses_in s rows
+  pub row_renamed : (new : Row) → new.routes ≡ r.routes → uses_in s (slice_set rows n new) ≡ uses_in s rows
   row_renamed new same = let e : row_uses s new ≡ row_uses s r = ap (uses_of s) same in omega (arith, row_set new, e)
 
-row_push : (s : ℕ) (rows : List Row) (r : Row) → r.routes.items ≡ [] → uses_in s (rows ++ r ∷ []) ≡ uses_in s rows
+row_push : (s : ℕ) (rows : List Row) (r : Row) → r.routes ≡ [] → uses_in s (rows ++ r ∷ []) ≡ uses_in s rows
 row_push s rows r none =
     let e : row_uses s r ≡ 0 = ap (uses_of s) none in
     let all : uses_in s (rows ++ r ∷ []) ≡ uses_in s rows + row_uses s r = sum_by_push (row_uses s) rows r in
     omega (arith, e, all)
 
 -- pushed, or memory was refused
-pub row_push_any : (s : ℕ) (rows : List Row) (r : Row) (b : Bool) (new : List Row) → new ≡ (if b then rows ++ r ∷ [] else rows) → r.routes.items ≡ [] → uses_in s new ≡ uses_in s rows
+pub row_push_any : (s : ℕ) (rows : List Row) (r : Row) (b : Bool) (new : List Row) → new ≡ (if b then rows ++ r ∷ [] else rows) → r.routes ≡ [] → uses_in s new ≡ uses_in s rows
 row_push_any s rows r true new is none = ap (uses_in s) is ∙ row_push s rows r none
 row_push_any s rows r false new is none = ap (uses_in s) is

@@ -80,7 +80,7 @@ push_prefix [] r (suc m) none = refl
 push_prefix (x ∷ rows) r zero none = refl
 push_prefix (x ∷ rows) r (suc m) none = push_prefix rows r m none
 
-pub push_routes : (rows : List Row) (r : Row) (m : ℕ) → r.routes.items ≡ [] → routes_in (slice_get (rows ++ r ∷ []) m) ≡ routes_in (slice_get rows m)
+pub push_routes : (rows : List Row) (r : Row) (m : ℕ) → r.routes ≡ [] → routes_in (slice_get (rows ++ r ∷ []) m) ≡ routes_in (slice_get rows m)
 push_routes [] r zero none = none
 push_routes [] r (suc m) none = refl
 push_routes (x ∷ rows) r zero none = refl
@@ -91,7 +91,7 @@ pub push_any_prefix : (rows : List Row) (r : Row) (b : Bool) (new : List Row) �
 push_any_prefix rows r true new is none m = ap (λ xs. prefix_at xs m) is ∙ push_prefix rows r m none
 push_any_prefix rows r false new is none m = ap (λ xs. prefix_at xs m) is
 
-pub push_any_routes : (rows : List Row) (r : Row) (b : Bool) (new : List Row) → new ≡ (if b then rows ++ r ∷ [] else rows) → r.routes.items ≡ [] → (m : ℕ) → routes_in (slice_get new m) ≡ routes_in (slice_get rows m)
+pub push_any_routes : (rows : List Row) (r : Row) (b : Bool) (new : List Row) → new ≡ (if b then rows ++ r ∷ [] else rows) → r.routes ≡ [] → (m : ℕ) → routes_in (slice_get new m) ≡ routes_in (slice_get rows m)
 push_any_routes rows r true new is none m = ap (λ xs. routes_in (slice_get xs m)) is ∙ push_routes rows r m none
 push_any_routes rows r false new is none m = ap (λ xs. routes_in (slice_get xs m)) is
 
@@ -111,8 +111,8 @@ same_row xs rows n a b o is below left right named =
     let same = same_Some a b (sym (shown xs rows n a is below left) ∙ read) in
     (read, sym (ap (λ (r : Row). r.prefix) same) ∙ named, same)
 
-pub empty_by : (a b : Row) → a ≡ b → length a.routes.items ≡ 0 → b.routes.items ≡ []
-empty_by a b same is = sym (ap (λ (r : Row). r.routes.items) same) ∙ nothing a.routes.items is
+pub empty_by : (a b : Row) → a ≡ b → length a.routes ≡ 0 → b.routes ≡ []
+empty_by a b same is = sym (ap (λ (r : Row). r.routes) same) ∙ nothing a.routes is
 
 pub push_here : (rows : List Row) (r : Row) → prefix_at (rows ++ r ∷ []) (length rows) ≡ r.prefix
 push_here [] r = refl
@@ -169,7 +169,7 @@ module _ (rows : List Row) (n : ℕ) (r s : Row) (read : slice_get rows n ≡ So
   ]
 
   -- the routes for p are these now, and all others as they were
-  pub row_steps : (numbers : Numbers) (p : Prefix) (rs : List Route) → IsInverse numbers rows → get prefix_order numbers p ≡ Some n → s.routes.items ≡ rs →
+  pub row_steps : (numbers : Numbers) (p : Prefix) (rs : List Route) → IsInverse numbers rows → get prefix_order numbers p ≡ Some n → s.routes ≡ rs →
       (q : Prefix) → routes_by (slice_set rows n s) (get prefix_order numbers q) ≡ (if same_prefix q p then rs else routes_by rows (get prefix_order numbers q))
   row_steps numbers p rs i at is q = go (same_prefix q p) refl
     where
@@ -218,7 +218,7 @@ module _ (old new : Numbers) (rows : List Row) (n : ℕ) (p : Prefix) (r s : Row
   same_there q None is = refl
   same_there q (Some m) is = ap routes_in (set_apart rows n s m (other_number q m is))
 
-  pub added_same : s.routes.items ≡ r.routes.items → AreVacant rows → (q : Prefix) → routes_by (slice_set rows n s) (get prefix_order new q) ≡ routes_by rows (get prefix_order old q)
+  pub added_same : s.routes ≡ r.routes → AreVacant rows → (q : Prefix) → routes_by (slice_set rows n s) (get prefix_order new q) ≡ routes_by rows (get prefix_order old q)
   added_same same vacant q = elim (prefix_is p q) [
     | inl e ↦ subst (λ x. routes_by (slice_set rows n s) (get prefix_order new x) ≡ routes_by rows (get prefix_order old x)) (sym e)
         (ap (routes_by (slice_set rows n s)) (written old new p (Some n) u) ∙ (ap routes_in new_row ∙ (same ∙ (sym (ap routes_in read) ∙ (vacant n free ∙ sym (ap (routes_by rows) absent))))))
@@ -268,7 +268,7 @@ module _ (old new : Numbers) (rows : List Row) (n : ℕ) (p : Prefix) (r s : Row
     ];
   }
 
-  pub gone_vacant : s.routes.items ≡ [] → AreVacant rows → AreVacant (slice_set rows n s)
+  pub gone_vacant : s.routes ≡ [] → AreVacant rows → AreVacant (slice_set rows n s)
   gone_vacant empty vacant m nil = elim (cases_eq m n) [
     | inl e ↦ subst (λ k. routes_in (slice_get (slice_set rows n s) k) ≡ []) (sym e) (ap routes_in gone_row ∙ empty)
     | inr ne ↦ ap routes_in (set_apart rows n s m ne) ∙ vacant m (sym (ap prefix_in (set_apart rows n s m ne)) ∙ nil)
@@ -278,7 +278,7 @@ module _ (old new : Numbers) (rows : List Row) (n : ℕ) (p : Prefix) (r s : Row
   same_left q other None is = refl
   same_left q other (Some m) is = ap routes_in (set_apart rows n s m (gone_old q m is).0)
 
-  pub gone_same : r.routes.items ≡ [] → (q : Prefix) → routes_by (slice_set rows n s) (get prefix_order new q) ≡ routes_by rows (get prefix_order old q)
+  pub gone_same : r.routes ≡ [] → (q : Prefix) → routes_by (slice_set rows n s) (get prefix_order new q) ≡ routes_by rows (get prefix_order old q)
   gone_same empty q = elim (prefix_is p q) [
     | inl e ↦ subst (λ x. routes_by (slice_set rows n s) (get prefix_order new x) ≡ routes_by rows (get prefix_order old x)) (sym e)
         (ap (routes_by (slice_set rows n s)) (written old new p None u) ∙ sym (ap (routes_by rows) number_was ∙ (ap routes_in read ∙ empty)))
@@ -292,5 +292,5 @@ row_within [] n p is = absurd (cc)
 row_within (r ∷ rows) zero p is = omega arith
 row_within (r ∷ rows) (suc n) p is = let below : n < length rows = row_within rows n p is in omega (arith, below)
 
-pub row_routes : (numbers : Numbers) (rows : List Row) (p : Prefix) (n : ℕ) (r : Row) → get prefix_order numbers p ≡ Some n → slice_get rows n ≡ Some r → routes_by rows (get prefix_order numbers p) ≡ r.routes.items
+pub row_routes : (numbers : Numbers) (rows : List Row) (p : Prefix) (n : ℕ) (r : Row) → get prefix_order numbers p ≡ Some n → slice_get rows n ≡ Some r → routes_by rows (get prefix_order numbers p) ≡ r.routes
 row_routes numbers rows p n r at read = ap (routes_by rows) at ∙ ap routes_in read

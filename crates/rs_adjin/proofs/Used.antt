@@ -32,16 +32,16 @@ count_set rows n r s is =
     omega (arith, there, all)
 
 -- the prefix alone is another
-pub count_renamed : (rows : List Row) (n : ℕ) (r s : Row) → slice_get rows n ≡ Some r → s.routes.items ≡ r.routes.items → count_by has_routes (slice_set rows n s) ≡ count_by has_routes rows
+pub count_renamed : (rows : List Row) (n : ℕ) (r s : Row) → slice_get rows n ≡ Some r → s.routes ≡ r.routes → count_by has_routes (slice_set rows n s) ≡ count_by has_routes rows
 count_renamed rows n r s is same = let e : one_if (has_routes s) ≡ one_if (has_routes r) = ap (λ rs. one_if (are_some rs)) same in omega (arith, count_set rows n r s is, e)
 
-count_push : (rows : List Row) (r : Row) → r.routes.items ≡ [] → count_by has_routes (rows ++ r ∷ []) ≡ count_by has_routes rows
+count_push : (rows : List Row) (r : Row) → r.routes ≡ [] → count_by has_routes (rows ++ r ∷ []) ≡ count_by has_routes rows
 count_push rows r none =
     let e : one_of r ≡ 0 = ap (λ rs. one_if (are_some rs)) none in
     let all : count_by has_routes (rows ++ r ∷ []) ≡ count_by has_routes rows + one_of r = sum_by_push one_of rows r in
     omega (arith, e, all)
 
-pub count_push_any : (rows : List Row) (r : Row) (b : Bool) (new : List Row) → new ≡ (if b then rows ++ r ∷ [] else rows) → r.routes.items ≡ [] → count_by has_routes new ≡ count_by has_routes rows
+pub count_push_any : (rows : List Row) (r : Row) (b : Bool) (new : List Row) → new ≡ (if b then rows ++ r ∷ [] else rows) → r.routes ≡ [] → count_by has_routes new ≡ count_by has_routes rows
 count_push_any rows r true new is none = ap (count_by has_routes) is ∙ count_push rows r none
 count_push_any rows r false new is none = ap (count_by has_routes) is
 
@@ -60,10 +60,10 @@ one_less b false is = ap (λ b. one_if b + 0) is
 
 -- how many rows have routes once one was written, by whether it had some and has
 module _ (rows : List Row) (n : ℕ) (r s : Row) (used : ℕ) (read : slice_get rows n ≡ Some r) (counted : count_by has_routes rows ≡ used)
-    (was is : Bool) (m k : ℕ) (before : was ≡ (m == 0)) (after : is ≡ (k == 0)) (m_is : m ≡ length r.routes.items) (k_is : k ≡ length s.routes.items) where
+    (was is : Bool) (m k : ℕ) (before : was ≡ (m == 0)) (after : is ≡ (k == 0)) (m_is : m ≡ length r.routes) (k_is : k ≡ length s.routes) where
   pub count_changed : count_by has_routes (slice_set rows n s) + one_if is ≡ used + one_if was
   count_changed =
-      omega (arith, count_set rows n r s read, counted, one_less (has_routes r) was (some_is r.routes.items was (before ∙ ap (λ n. n == 0) m_is)), one_less (has_routes s) is (some_is s.routes.items is (after ∙ ap (λ n. n == 0) k_is)))
+      omega (arith, count_set rows n r s read, counted, one_less (has_routes r) was (some_is r.routes was (before ∙ ap (λ n. n == 0) m_is)), one_less (has_routes s) is (some_is s.routes is (after ∙ ap (λ n. n == 0) k_is)))
 
 -- ---- the prefixes of the rows with routes
 

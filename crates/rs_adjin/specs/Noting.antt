@@ -21,7 +21,7 @@ with_notes f (Some p) routes = map (with_note (λ c m. f c p m)) routes
 -- the row's routes have their notes now, and its prefix is as it was
 pub record RowNotes (f : ℕ → Prefix → List Attribute → ℕ) (old new : Row) : Type 0 where
   pub prefix : new.prefix ≡ old.prefix
-  pub routes : new.routes.items ≡ with_notes f old.prefix old.routes.items
+  pub routes : new.routes ≡ with_notes f old.prefix old.routes
 
 -- so have those of each row
 abbrev pub RowsNote : (ℕ → Prefix → List Attribute → ℕ) → List Row → List Row → Type 0

@@ -22,7 +22,7 @@ uses_of s routes = count_by (λ r. r.set == s) routes
 
 -- how many of the routes in all rows
 abbrev pub uses_in : ℕ → List Row → ℕ
-uses_in s rows = sum_by (λ row. uses_of s row.routes.items) rows
+uses_in s rows = sum_by (λ row. uses_of s row.routes) rows
 
 -- of each set so many routes are counted as have it
 abbrev pub AreShared : Sets → List Row → Type 0

@@ -143,7 +143,7 @@ impl AdjIns {
         ensures same { Same self.old self.new }
         ensures noted { KeepsNotes self.old self.new }
     {
-        self.table.add(self.alloc, prefix)
+        self.table.add(prefix)
     }
 
     /// The client announces a route for the prefix of a number, as `put` has it.
@@ -169,6 +169,7 @@ impl AdjIns {
         };
         let held = &mut self.held[client];
         put_row(
+            self.alloc,
             &mut self.table,
             number,
             held,

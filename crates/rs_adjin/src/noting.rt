@@ -10,7 +10,7 @@ use crate::routes::Route;
 use rs_octets::Prefix;
 
 /// Gives the routes for a prefix their notes.
-fn note_routes<N: Notes>(routes: &mut [Route], prefix: &Prefix, notes: &N)
+pub(crate) fn note_routes<N: Notes>(routes: &mut [Route], prefix: &Prefix, notes: &N)
     requires { All (λ r. r.client < N.known notes.now) routes.old }
     ensures { routes.new ≡ map (with_note (λ c m. N.note_by notes.now c prefix.now m)) routes.old }
 {
@@ -21,11 +21,11 @@ fn note_routes<N: Notes>(routes: &mut [Route], prefix: &Prefix, notes: &N)
 
 /// Gives the routes in a row their notes.
 fn note_row<N: Notes>(row: &mut Row, notes: &N)
-    requires { All (λ r. r.client < N.known notes.now) row.old.routes.items }
+    requires { All (λ r. r.client < N.known notes.now) row.old.routes }
     ensures { RowNotes (N.note_by notes.now) row.old row.new }
 {
     if let Some(prefix) = &row.prefix {
-        note_routes(&mut row.routes, prefix, notes);
+        row.routes.give_notes(prefix, notes);
     }
 }
 

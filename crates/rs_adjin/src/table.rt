@@ -11,18 +11,18 @@ ghost use Rattle.rs_adjin.specs.Sets.{HasRoom, AreCovered, Recounts};
 
 use crate::held::Held;
 use crate::numbers::Numbered;
-use crate::room::make_room;
-use crate::routes::{Route, new_route, place_of, replace};
+use crate::routes::{new_route, place_of, replace};
+use crate::row_routes::RowRoutes;
 use crate::sets::Sets;
 use rs_attrs::Attrs;
 use rs_octets::Prefix;
 use std::alloc::{AllocError, Global};
 use std::sync::Arc;
 
-/// Puts a client's first route for a prefix among those of others. Most prefixes have one holder, so the
-/// first one's route gets room for itself alone.
+/// Puts a client's first route for a prefix among those of others.
 fn add_at(
-    routes: &mut Vec<Route>,
+    alloc: Global,
+    routes: &mut RowRoutes,
     place: usize,
     held: &mut Held,
     sets: &mut Sets,
@@ -33,22 +33,21 @@ fn add_at(
     set: u32,
 ) -> Result<(), AllocError>
     requires room { HasRoom sets.old set }
-    requires rising { IsRising routes.old.items }
-    requires place { BelongsAt client routes.old.items place }
+    requires rising { IsRising routes.old }
+    requires place { BelongsAt client routes.old place }
     requires absent { has_number held.old number ≡ false }
-    ensures kept { KeepsRoutes routes.old.items routes.new.items client }
-    ensures noted { PutsNoteIn routes.old.items routes.new.items client (arc_value attrs.now) note }
-    ensures filled { 0 < length routes.old.items → 0 < length routes.new.items }
-    ensures ok { OnOk result (Changes routes.old.items routes.new.items client (Some (arc_value attrs.now))) }
+    ensures kept { KeepsRoutes routes.old routes.new client }
+    ensures noted { PutsNoteIn routes.old routes.new client (arc_value attrs.now) note }
+    ensures filled { 0 < length routes.old → 0 < length routes.new }
+    ensures ok { OnOk result (Changes routes.old routes.new client (Some (arc_value attrs.now))) }
     ensures marked { OnOk result (Marks held.old held.new number true) }
-    ensures err { OnErr result (SameRoutes routes.old.items routes.new.items) }
+    ensures err { OnErr result (SameRoutes routes.old routes.new) }
     ensures unmarked { OnErr result (SameSet held.old held.new) }
-    ensures recounts { Recounts sets.old sets.new routes.old.items routes.new.items }
+    ensures recounts { Recounts sets.old sets.new routes.old routes.new }
 {
     let route = new_route(client, attrs, note, set)?;
-    make_room(routes, 1)?;
     held.add(number)?;
-    let Ok(()) = routes.insert(place, route) else {
+    let Ok(()) = routes.insert(alloc, place, route) else {
         held.remove(number);
         return Err(AllocError);
     };
@@ -58,7 +57,8 @@ fn add_at(
 
 /// Gives a client a route among those for a prefix, and answers whether that changes what it has.
 fn put_among(
-    routes: &mut Vec<Route>,
+    alloc: Global,
+    routes: &mut RowRoutes,
     held: &mut Held,
     sets: &mut Sets,
     client: usize,
@@ -68,23 +68,25 @@ fn put_among(
     set: u32,
 ) -> Result<bool, AllocError>
     requires room { HasRoom sets.old set }
-    requires covered { AreCovered sets.old routes.old.items }
-    requires rising { IsRising routes.old.items }
-    requires tied { has_number held.old number ≡ is_some (value_in client routes.old.items) }
-    ensures kept { KeepsRoutes routes.old.items routes.new.items client }
-    ensures noted { PutsNoteIn routes.old.items routes.new.items client (arc_value attrs.now) note }
-    ensures filled { 0 < length routes.old.items → 0 < length routes.new.items }
-    ensures ok { OnOk result (Changes routes.old.items routes.new.items client (Some (arc_value attrs.now))) }
-    ensures changed { IfOk result (λ changed. TellsChange changed (value_in client routes.old.items) (Some (arc_value attrs.now))) }
+    requires covered { AreCovered sets.old routes.old }
+    requires rising { IsRising routes.old }
+    requires tied { has_number held.old number ≡ is_some (value_in client routes.old) }
+    ensures kept { KeepsRoutes routes.old routes.new client }
+    ensures noted { PutsNoteIn routes.old routes.new client (arc_value attrs.now) note }
+    ensures filled { 0 < length routes.old → 0 < length routes.new }
+    ensures ok { OnOk result (Changes routes.old routes.new client (Some (arc_value attrs.now))) }
+    ensures changed { IfOk result (λ changed. TellsChange changed (value_in client routes.old) (Some (arc_value attrs.now))) }
     ensures marked { OnOk result (Marks held.old held.new number true) }
-    ensures err { OnErr result (SameRoutes routes.old.items routes.new.items) }
+    ensures err { OnErr result (SameRoutes routes.old routes.new) }
     ensures unmarked { OnErr result (SameSet held.old held.new) }
-    ensures recounts { Recounts sets.old sets.new routes.old.items routes.new.items }
+    ensures recounts { Recounts sets.old sets.new routes.old routes.new }
 {
-    match place_of(routes, client) {
-        Ok(place) => replace(&mut routes[place], sets, attrs, note, set),
+    match place_of(routes.as_slice(), client) {
+        Ok(place) => replace(routes.route_mut(place), sets, attrs, note, set),
         Err(place) => {
-            add_at(routes, place, held, sets, client, number, attrs, note, set)?;
+            add_at(
+                alloc, routes, place, held, sets, client, number, attrs, note, set,
+            )?;
             Ok(true)
         }
     }
@@ -93,6 +95,7 @@ fn put_among(
 /// Gives a client a route in the row of its prefix, and answers whether that changes what it has.
 /// The row is found by its number; `prefix` is there for the contract, which says what each prefix has.
 pub(crate) fn put_row(
+    alloc: Global,
     table: &mut Numbered,
     number: u32,
     held: &mut Held,
@@ -118,6 +121,7 @@ pub(crate) fn put_row(
     let sets = &mut table.sets;
     let was_empty = row.routes.is_empty();
     let put = put_among(
+        alloc,
         &mut row.routes,
         held,
         sets,
@@ -158,8 +162,8 @@ fn put_first(
     ensures numbered { OnOk result (IsSome (number_in table.new prefix)) }
     ensures unnumbered { OnErr result (SameNumbers table.old table.new) }
 {
-    let number = table.add_new(alloc, prefix)?;
-    match put_row(table, number, held, client, prefix, attrs, note, set) {
+    let number = table.add_new(prefix)?;
+    match put_row(alloc, table, number, held, client, prefix, attrs, note, set) {
         Ok(changed) => Ok(changed),
         Err(refused) => {
             table.release(number);
@@ -193,23 +197,23 @@ pub(crate) fn put_in(
     ensures unnumbered { OnErr result (SameNumbers table.old table.new) }
 {
     match table.number(prefix) {
-        Some(number) => put_row(table, number, held, client, prefix, attrs, note, set),
+        Some(number) => put_row(alloc, table, number, held, client, prefix, attrs, note, set),
         None => put_first(alloc, table, held, client, prefix, attrs, note, set),
     }
 }
 
 /// Takes a client's route from those for a prefix, and answers whether there was one.
-fn take_from(routes: &mut Vec<Route>, sets: &mut Sets, client: usize) -> bool
-    requires rising { IsRising routes.old.items }
-    requires covered { AreCovered sets.old routes.old.items }
-    ensures kept { KeepsRoutes routes.old.items routes.new.items client }
-    ensures noted { KeepsNotesIn routes.old.items routes.new.items }
-    ensures taken { result ≡ is_some (value_in client routes.old.items) }
-    ensures changes { Changes routes.old.items routes.new.items client None }
-    ensures unchanged { result ≡ false → routes.new.items ≡ routes.old.items }
-    ensures recounts { Recounts sets.old sets.new routes.old.items routes.new.items }
+fn take_from(routes: &mut RowRoutes, sets: &mut Sets, client: usize) -> bool
+    requires rising { IsRising routes.old }
+    requires covered { AreCovered sets.old routes.old }
+    ensures kept { KeepsRoutes routes.old routes.new client }
+    ensures noted { KeepsNotesIn routes.old routes.new }
+    ensures taken { result ≡ is_some (value_in client routes.old) }
+    ensures changes { Changes routes.old routes.new client None }
+    ensures unchanged { result ≡ false → routes.new ≡ routes.old }
+    ensures recounts { Recounts sets.old sets.new routes.old routes.new }
 {
-    match place_of(routes, client) {
+    match place_of(routes.as_slice(), client) {
         Ok(place) => {
             let route = routes.remove(place);
             sets.remove(route.set);

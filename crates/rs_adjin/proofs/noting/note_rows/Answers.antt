@@ -16,7 +16,7 @@ note_row-requires g c =
     let known = g.N.Notes.known c.args.notes.now in
     let same : length c.deref_mut-row-items.result.now ≡ length old = ap (λ (rows : List Row). length rows) c.deref_mut-row-items.ensures.value in
     let read : slice_get old i ≡ Some row = shown old old i row refl (omega (arith, same, c.loop-row-test.true)) (c.row-item.is ∙ front_same (g.N.Notes.note_by c.args.notes.now) i old c.loop-row.row-items row c.loop-row.invariant) in
-    subst (λ (r : Row). All (λ s. s.client < known) r.routes.items) c.row-item.is (subst (λ o. All (λ s. s.client < known) (routes_in o)) read (c.requires i))
+    subst (λ (r : Row). All (λ s. s.client < known) r.routes) c.row-item.is (subst (λ o. All (λ s. s.client < known) (routes_in o)) read (c.requires i))
 
 pub loop-row-preserved : goal.loop-row-preserved
 loop-row-preserved g c =
