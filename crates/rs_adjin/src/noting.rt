@@ -24,8 +24,8 @@ fn note_row<N: Notes>(row: &mut Row, notes: &N)
     requires { All (λ r. r.client < N.known notes.now) row.old.routes }
     ensures { RowNotes (N.note_by notes.now) row.old row.new }
 {
-    if let Some(prefix) = &row.prefix {
-        row.routes.give_notes(prefix, notes);
+    if let Some(prefix) = row.prefix.get() {
+        row.routes.give_notes(&prefix, notes);
     }
 }
 
