@@ -143,6 +143,7 @@ impl RowRoutes {
             }
         }
     }
+
     /// Gives the routes their notes.
     pub(crate) fn give_notes<N: Notes>(&mut self, prefix: &Prefix, notes: &N)
         requires { All (λ r. r.client < N.known notes.now) self.old }
