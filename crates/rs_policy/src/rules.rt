@@ -1,5 +1,6 @@
 //! Rules as values.
 
+pub(crate) mod alike;
 mod matching;
 pub(crate) mod noting;
 pub(crate) mod reasons;

@@ -1,9 +1,9 @@
 -- Where neither list has a rule, what becomes of a route is the default's.
-use Rattle.std.proofs.Common.{◌≡◌, ◌∙◌, ℕ, Some, List, [], find, sym, ap, refl}
+use Rattle.std.proofs.Common.{◌≡◌, ◌∙◌, ℕ, ◌<◌, Some, List, [], length, find, sym, ap, refl}
 use Rattle.rs_octets.specs.Prefixes.{Prefix}
 use Rattle.rs_attrs.specs.Meaning.{Attribute}
 use Rattle.rs_policy.specs.Configuration.{NamedList, Configuration, policy_of}
-use Rattle.rs_policy.specs.Verdicts.{AnnouncedRoute, announced_route, joined, matches, outcome, passing_by, passing_by_default, verdict}
+use Rattle.rs_policy.specs.Verdicts.{AnnouncedRoute, AsksNoReceiver, announced_route, joined, matches, outcome, passing_by, passing_by_default, verdict}
 use Rattle.rs_policy.specs.Noted.{import_outcome, plainly}
 use Rattle.rs_policy.specs.declared.rules.Disposition.{Disposition}
 use Rattle.rs_policy.specs.declared.rules.Disposition.TheVariants as D
@@ -30,3 +30,12 @@ unfolding verdict
 plainly_through s from to p m is no_export =
     by_default s.top.default
     ∙ λ i. joined (is i) (sym (nothing_matches s.top.default s.lists (policy_of s to).export (announced_route s from to p m) no_export) i)
+
+-- where neither receiver has export rules, the same becomes of a route for both
+pub without_exports : (s : Configuration) (one other : ℕ) → AsksNoReceiver s → (policy_of s one).export ≡ [] → (policy_of s other).export ≡ []
+    → (from : ℕ) (p : Prefix) (m : List Attribute) → from < length s.clients → verdict s from one p m ≡ verdict s from other p m
+unfolding verdict
+without_exports s one other asks none nor from p m known = λ i.
+    joined (asks from one other p m known i)
+    ((nothing_matches s.top.default s.lists (policy_of s one).export (announced_route s from one p m) none
+    ∙ sym (nothing_matches s.top.default s.lists (policy_of s other).export (announced_route s from other p m) nor)) i)
