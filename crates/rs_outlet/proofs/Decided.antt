@@ -9,5 +9,6 @@ pub mod TouchedNumbers
 pub mod TouchedList
 pub mod Ranks
 pub mod OthersAlone
+pub mod Shared
 pub mod Counting
 pub mod Left

@@ -4,5 +4,6 @@ pub mod Due
 pub mod Alike
 pub mod HeldBy
 pub mod Passing
+pub mod Choices
 pub mod Turns
 pub mod Counted

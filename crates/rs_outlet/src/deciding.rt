@@ -1,6 +1,6 @@
 //! What is due to a client at one prefix (RFC 4271, 9.1; RFC 7947, 2.3).
 
-ghost use Rattle.std.specs.Prelude.{◌≡◌, ◌<◌, ◌++◌, length, map, Some, None, IfOk, OnOk, All, IfSome, option_map, option_and_then, slice_get};
+ghost use Rattle.std.specs.Prelude.{◌≡◌, ◌<◌, ◌++◌, ℕ, List, IsTrue, [], length, map, Some, None, IfOk, OnOk, All, IfSome, option_map, option_and_then, slice_get};
 ghost use Rattle.std.specs.List.{filter_map};
 ghost use Rattle.std.specs.Arc.{arc_value};
 ghost use Rattle.rs_attrs.specs.Stripping.{stripped_of, taken_by};
@@ -11,16 +11,21 @@ ghost use Rattle.rs_policy.specs.Verdicts.{verdict};
 ghost use Rattle.rs_decision.specs.Best.{HasDistinctPlaces};
 ghost use Rattle.rs_outlet.specs.Decided.Due.{Held, rank_of, rank_to, ranks_among, passed_on, if_fits, route_from, due_to};
 ghost use Rattle.rs_outlet.specs.Decided.HeldBy.{held_by, AreOfOneServer};
+ghost use Rattle.rs_octets.specs.Prefixes.{Prefix};
+ghost use Rattle.rs_attrs.specs.Meaning.{Attribute};
+ghost use Rattle.rs_outlet.specs.Decided.Choices.{AreChoices, chosen};
 ghost use Rattle.rs_outlet.specs.Decided.Passing.{attributes_passed, due_alone, is_kept_back, passed_fitting};
 
 use crate::answers::Speech;
+use crate::choices::{Choice, Choices};
 use rs_adjin::{AdjIns, Holder, Holders};
 use rs_attrs::{Attrs, Strip, stripped};
 use rs_decision::{Rank, best};
 use rs_octets::Prefix;
 use rs_packer::fits;
-use rs_policy::{Config, Fate, judge_noted};
+use rs_policy::{Config, Fate, judge_noted, judges_alike};
 use std::alloc::{AllocError, Global};
+use std::mem;
 use std::sync::Arc;
 
 /// The tables and the rules by which a client's routes are decided.
@@ -53,19 +58,41 @@ impl Changed<'_> {
     }
 }
 
-/// What one decision of a turn leaves to the next: room for ranks, and the last route that rules changed.
+/// What one decision of a turn leaves to the next: room for ranks, the last route that rules changed, and choices that
+/// serve other clients too.
 #[derive(Drop)]
 pub(crate) struct Draft<'a> {
     ranks: Vec<Rank>,
     last: Option<Changed<'a>>,
+    pub(crate) choices: Choices,
 }
 
 impl<'a> Draft<'a> {
-    pub(crate) fn new(alloc: Global) -> Draft<'a> {
+    pub(crate) fn new(alloc: Global, choices: Choices) -> Draft<'a>
+        ensures { result.choices ≡ choices }
+    {
         Draft {
             ranks: Vec::new(alloc),
             last: None,
+            choices,
         }
+    }
+
+    /// Begins with the choices that were kept, which are gone where they were.
+    pub(crate) fn from_choices(alloc: Global, choices: &mut Choices) -> Draft<'a>
+        ensures made { result.choices.kept.items ≡ choices.old.kept.items }
+        ensures none { choices.new.kept.items ≡ [] }
+    {
+        choices.begin();
+        Draft::new(alloc, mem::replace(choices, Choices::new(alloc)))
+    }
+
+    /// The choices that it leaves.
+    pub(crate) fn into_choices(self) -> Choices
+        ensures { result ≡ self.entry.choices }
+    {
+        let Draft { choices, .. } = self;
+        choices
     }
 }
 
@@ -300,8 +327,98 @@ fn decide_alone<'a>(
     pass_fitting(alloc, sources, speech, prefix, holder, last)
 }
 
-/// What is due where these clients hold the prefix: the best of the candidates. Only the ranks of the
-/// candidates are kept, so the winner's route is looked up, and the client's export list asked a second time.
+/// Whose route is the best of the candidates among those of these holders, if there is one.
+fn choose(
+    sources: &Sources<'_>,
+    prefix: &Prefix,
+    holders: Holders<'_>,
+    ranks: &mut Vec<Rank>,
+) -> Result<Option<usize>, AllocError>
+    requires holders { ListsHolders sources.now.ins.now prefix.now (map (λ h. h.0) holders) }
+    requires server { AreOfOneServer sources.now }
+    requires notes { All (λ h. h.1 ≡ note_of_import sources.now.config.now h.0.0 prefix.now h.0.1) holders }
+    ensures { IfOk result (λ place. place ≡ chosen (held_by sources.now) sources.now.client prefix.now) }
+{
+    rank_all(sources, prefix, holders, ranks)?;
+    let Some(index) = best(ranks) else {
+        return Ok(None);
+    };
+    match ranks.get(index) {
+        None => Ok(None),
+        Some(rank) => Ok(Some(rank.place)),
+    }
+}
+
+/// Whether the choice at the prefix of a number serves other clients too: the client has no export rules, and no route
+/// for the prefix itself.
+fn is_shared(sources: &Sources<'_>, number: u32) -> bool
+    requires server { AreOfOneServer sources.now }
+    ensures { IsTrue result → (p : Prefix) → number_of sources.now.ins.now p ≡ Some number → held_of sources.now.ins.now sources.now.client p ≡ None }
+{
+    if !judges_alike(sources.config, sources.client, sources.client) {
+        return false;
+    }
+    sources.ins.noted_at(sources.client, number).is_none()
+}
+
+/// The choice that was made for a client before, if it is this one's too.
+fn chosen_before(
+    sources: &Sources<'_>,
+    number: u32,
+    prefix: &Prefix,
+    choices: &mut Choices,
+) -> Option<Choice>
+    requires number { number_of sources.now.ins.now prefix.now ≡ Some number }
+    requires server { AreOfOneServer sources.now }
+    requires absent { held_of sources.now.ins.now sources.now.client prefix.now ≡ None }
+    requires holders { (held : List (ℕ × List Attribute)) × ListsHolders sources.now.ins.now prefix.now held }
+    requires choices { AreChoices (held_by sources.now) sources.now.ins.now choices.old.kept.items }
+    ensures chosen { IfSome result (λ choice. choice.place ≡ chosen (held_by sources.now) sources.now.client prefix.now) }
+    ensures kept { choices.new.kept.items ≡ choices.old.kept.items }
+{
+    let Some(choice) = choices.find(number) else {
+        return None;
+    };
+    if judges_alike(sources.config, choice.client, sources.client) {
+        Some(choice)
+    } else {
+        None
+    }
+}
+
+/// Whose route is the best, found once for all clients that are decided alike.
+fn choose_once(
+    sources: &Sources<'_>,
+    number: u32,
+    prefix: &Prefix,
+    holders: Holders<'_>,
+    draft: &mut Draft<'_>,
+) -> Result<Option<usize>, AllocError>
+    requires number { number_of sources.now.ins.now prefix.now ≡ Some number }
+    requires holders { ListsHolders sources.now.ins.now prefix.now (map (λ h. h.0) holders) }
+    requires server { AreOfOneServer sources.now }
+    requires notes { All (λ h. h.1 ≡ note_of_import sources.now.config.now h.0.0 prefix.now h.0.1) holders }
+    requires choices { AreChoices (held_by sources.now) sources.now.ins.now draft.old.choices.kept.items }
+    ensures chosen { IfOk result (λ place. place ≡ chosen (held_by sources.now) sources.now.client prefix.now) }
+    ensures choices { OnOk result (AreChoices (held_by sources.now) sources.now.ins.now draft.new.choices.kept.items) }
+{
+    if !is_shared(sources, number) {
+        return choose(sources, prefix, holders, &mut draft.ranks);
+    }
+    if let Some(choice) = chosen_before(sources, number, prefix, &mut draft.choices) {
+        return Ok(choice.place);
+    }
+    let place = choose(sources, prefix, holders, &mut draft.ranks)?;
+    draft.choices.keep(Choice {
+        number,
+        client: sources.client,
+        place,
+    });
+    Ok(place)
+}
+
+/// What is due where these clients hold the prefix: the best of the candidates, whose route is looked up, and the
+/// client's export list asked of it.
 fn decide_among<'a>(
     alloc: Global,
     sources: &Sources<'a>,
@@ -315,16 +432,14 @@ fn decide_among<'a>(
     requires holders { ListsHolders sources.now.ins.now prefix.now (map (λ h. h.0) holders) }
     requires server { AreOfOneServer sources.now }
     requires notes { All (λ h. h.1 ≡ note_of_import sources.now.config.now h.0.0 prefix.now h.0.1) holders }
-    ensures { IfOk result (λ due. option_map attributes_passed due ≡ due_to (held_by sources.now) sources.now.client speech prefix.now) }
+    requires choices { AreChoices (held_by sources.now) sources.now.ins.now draft.old.choices.kept.items }
+    ensures due { IfOk result (λ due. option_map attributes_passed due ≡ due_to (held_by sources.now) sources.now.client speech prefix.now) }
+    ensures choices { OnOk result (AreChoices (held_by sources.now) sources.now.ins.now draft.new.choices.kept.items) }
 {
-    rank_all(sources, prefix, holders, &mut draft.ranks)?;
-    let Some(index) = best(&draft.ranks) else {
+    let Some(place) = choose_once(sources, number, prefix, holders, draft)? else {
         return Ok(None);
     };
-    let Some(rank) = draft.ranks.get(index) else {
-        return Ok(None);
-    };
-    let Some(holder) = sources.ins.noted_at(rank.place, number) else {
+    let Some(holder) = sources.ins.noted_at(place, number) else {
         return Ok(None);
     };
     pass_fitting(alloc, sources, speech, prefix, &holder, &mut draft.last)
@@ -341,7 +456,9 @@ pub(crate) fn decide<'a>(
 ) -> Result<Option<Passed<'a>>, AllocError>
     requires number { number_of sources.now.ins.now prefix.now ≡ Some number }
     requires server { AreOfOneServer sources.now }
-    ensures { IfOk result (λ due. option_map attributes_passed due ≡ due_to (held_by sources.now) sources.now.client speech prefix.now) }
+    requires choices { AreChoices (held_by sources.now) sources.now.ins.now draft.old.choices.kept.items }
+    ensures due { IfOk result (λ due. option_map attributes_passed due ≡ due_to (held_by sources.now) sources.now.client speech prefix.now) }
+    ensures choices { OnOk result (AreChoices (held_by sources.now) sources.now.ins.now draft.new.choices.kept.items) }
 {
     let mut holders = sources.ins.at_number(number);
     if holders.len() != 1 {

@@ -19,6 +19,7 @@
 
 mod answers;
 mod changes;
+mod choices;
 mod deciding;
 mod fill;
 pub mod laws;
@@ -36,6 +37,7 @@ mod turn;
 mod waiting;
 
 pub use answers::{Last, Speech, Turned};
+pub use choices::Choices;
 pub use noting::note_all;
 pub use outlet::Outlet;
 pub use routes::Routes;

@@ -15,10 +15,12 @@ ghost use Rattle.rs_outlet.specs.Decided.Counted.{is_counted, is_left, is_standi
 ghost use Rattle.rs_outlet.specs.Decided.HeldBy.{held_by, AreOfOneServer};
 ghost use Rattle.rs_outlet.specs.Inside.{AreDecided, AreFresh, IsDecidedAt};
 ghost use Rattle.rs_outlet.specs.Decided.Touching.{is_number_touched, is_numbered_in, touched_of};
+ghost use Rattle.rs_outlet.specs.Decided.Choices.{AreChoices};
 ghost use Rattle.rs_outlet.specs.Decided.Passing.{attributes_passed};
 
 use crate::answers::{Last, Speech, Turned};
 use crate::changes::{Change, commit, make_room};
+use crate::choices::Choices;
 use crate::deciding::{Draft, Passed, Sources, decide};
 use crate::outlet::Outlet;
 use crate::table::Rows;
@@ -61,7 +63,9 @@ fn decide_one<'a>(
 ) -> Result<(), AllocError>
     requires number { number_of sources.now.ins.now prefix ≡ Some number }
     requires server { AreOfOneServer sources.now }
-    ensures { OnOk result (IsDecidedAt sources.now.ins.now (due_to (held_by sources.now) sources.now.client speech) rows.now.rows.items number changes.old.items changes.new.items) }
+    requires choices { AreChoices (held_by sources.now) sources.now.ins.now draft.old.choices.kept.items }
+    ensures decided { OnOk result (IsDecidedAt sources.now.ins.now (due_to (held_by sources.now) sources.now.client speech) rows.now.rows.items number changes.old.items changes.new.items) }
+    ensures choices { OnOk result (AreChoices (held_by sources.now) sources.now.ins.now draft.new.choices.kept.items) }
 {
     let due = decide(alloc, sources, speech, number, &prefix, draft)?;
     if is_due(rows.attrs(number), due.as_ref()) {
@@ -90,12 +94,15 @@ fn decide_touched(
     speech: Speech,
     rows: &Rows,
     touched: &[(u32, Prefix)],
+    choices: &mut Choices,
 ) -> Result<Vec<Change>, AllocError>
     requires server { AreOfOneServer sources.now }
+    requires choices { AreChoices (held_by sources.now) sources.now.ins.now choices.old.kept.items }
     requires once { IsDistinct nat_eq (keys_of touched.now) }
-    ensures { IfOk result (λ changes. AreDecided sources.now.ins.now (due_to (held_by sources.now) sources.now.client speech) rows.now.rows.items (is_numbered_in touched.now) changes.items) }
+    ensures decided { IfOk result (λ changes. AreDecided sources.now.ins.now (due_to (held_by sources.now) sources.now.client speech) rows.now.rows.items (is_numbered_in touched.now) changes.items) }
+    ensures choices { AreChoices (held_by sources.now) sources.now.ins.now choices.new.kept.items }
 {
-    let mut draft = Draft::new(alloc);
+    let mut draft = Draft::from_choices(alloc, choices);
     let mut changes = Vec::with_capacity(alloc, touched.len())?;
     for (number, _) in touched {
         decide_number(
@@ -108,6 +115,7 @@ fn decide_touched(
             &mut changes,
         )?;
     }
+    *choices = draft.into_choices();
     Ok(changes)
 }
 
@@ -137,15 +145,18 @@ fn decide_stale(
     speech: Speech,
     rows: &Rows,
     touched: &[(u32, Prefix)],
+    choices: &mut Choices,
 ) -> Result<Decided, AllocError>
     requires server { AreOfOneServer sources.now }
+    requires choices { AreChoices (held_by sources.now) sources.now.ins.now choices.old.kept.items }
     requires once { IsDistinct nat_eq (keys_of touched.now) }
+    ensures choices { AreChoices (held_by sources.now) sources.now.ins.now choices.new.kept.items }
     ensures changes { IfOk result (λ decided. AreDecided sources.now.ins.now (due_to (held_by sources.now) sources.now.client speech) rows.now.rows.items (is_numbered_in touched.now) decided.changes.items) }
     ensures whole { IfOk result (λ decided. decided.whole ≡ nat_lt 4096 (length touched.now)) }
     ensures count { IfOk result (λ decided. decided.whole ≡ false → decided.count ≡ length touched.now) }
     ensures all { HaveNumbers touched.now sources.now.ins.now → AreFresh sources.now.ins.now (due_to (held_by sources.now) sources.now.client speech) rows.now.rows.items (is_numbered_in touched.now) → IfOk result (λ decided. decided.whole ≡ true → IsNumberOf (is_counted sources.now.ins.now rows.now.rows.items (any_holds (held_by sources.now))) decided.count) }
 {
-    let changes = decide_touched(alloc, sources, speech, rows, touched)?;
+    let changes = decide_touched(alloc, sources, speech, rows, touched, choices)?;
     if touched.len() <= TOUCHED_MAX {
         return Ok(Decided {
             changes,
@@ -176,6 +187,8 @@ fn decide_number<'a>(
     changes: &mut Vec<Change>,
 ) -> Result<bool, AllocError>
     requires server { AreOfOneServer sources.now }
+    requires choices { AreChoices (held_by sources.now) sources.now.ins.now draft.old.choices.kept.items }
+    ensures choices { OnOk result (AreChoices (held_by sources.now) sources.now.ins.now draft.new.choices.kept.items) }
     ensures changes { OnOk result (IsDecidedAt sources.now.ins.now (due_to (held_by sources.now) sources.now.client speech) rows.now.rows.items number changes.old.items changes.new.items) }
     ensures free { prefix_of sources.now.ins.now number ≡ None → IfOk result (λ decided. decided ≡ false) }
     ensures standing { (p : Prefix) → number_of sources.now.ins.now p ≡ Some number → IfOk result (λ decided. decided ≡ is_standing rows.now.rows.items (any_holds (held_by sources.now)) p number) }
@@ -197,13 +210,16 @@ fn decide_all(
     sources: &Sources<'_>,
     speech: Speech,
     rows: &Rows,
+    choices: &mut Choices,
 ) -> Result<Decided, AllocError>
     requires server { AreOfOneServer sources.now }
+    requires choices { AreChoices (held_by sources.now) sources.now.ins.now choices.old.kept.items }
+    ensures choices { AreChoices (held_by sources.now) sources.now.ins.now choices.new.kept.items }
     ensures changes { IfOk result (λ decided. AreDecided sources.now.ins.now (due_to (held_by sources.now) sources.now.client speech) rows.now.rows.items (λ number. true) decided.changes.items) }
     ensures count { IfOk result (λ decided. IsNumberOf (is_counted sources.now.ins.now rows.now.rows.items (any_holds (held_by sources.now))) decided.count) }
     ensures whole { IfOk result (λ decided. decided.whole ≡ true) }
 {
-    let mut draft = Draft::new(alloc);
+    let mut draft = Draft::from_choices(alloc, choices);
     let mut changes = Vec::new(alloc);
     let mut count = 0usize;
     let Ok(numbers) = u32::try_from(sources.ins.numbers()) else {
@@ -221,6 +237,7 @@ fn decide_all(
         )?;
         count += usize::from(decided);
     }
+    *choices = draft.into_choices();
     Ok(Decided {
         changes,
         count,
@@ -235,16 +252,19 @@ fn decide_all_touched(
     speech: Speech,
     rows: &Rows,
     touched: &Touched,
+    choices: &mut Choices,
 ) -> Result<Decided, AllocError>
     requires server { AreOfOneServer sources.now }
+    requires choices { AreChoices (held_by sources.now) sources.now.ins.now choices.old.kept.items }
+    ensures choices { AreChoices (held_by sources.now) sources.now.ins.now choices.new.kept.items }
     ensures changes { IfOk result (λ decided. AreDecided sources.now.ins.now (due_to (held_by sources.now) sources.now.client speech) rows.now.rows.items (is_number_touched touched.now.all touched.now.prefixes.items) decided.changes.items) }
     ensures whole { HaveNumbers touched.now.prefixes.items sources.now.ins.now → IfOk result (λ decided. decided.whole ≡ is_whole (touched_of touched.now.all touched.now.prefixes.items)) }
     ensures count { HaveNumbers touched.now.prefixes.items sources.now.ins.now → IfOk result (λ decided. (prefixes : Prefixes) → touched_of touched.now.all touched.now.prefixes.items ≡ Some prefixes → decided.count ≡ set.len prefixes) }
     ensures all { HaveNumbers touched.now.prefixes.items sources.now.ins.now → AreFresh sources.now.ins.now (due_to (held_by sources.now) sources.now.client speech) rows.now.rows.items (is_number_touched touched.now.all touched.now.prefixes.items) → IfOk result (λ decided. decided.whole ≡ true → IsNumberOf (is_counted sources.now.ins.now rows.now.rows.items (any_holds (held_by sources.now))) decided.count) }
 {
     match touched.list(alloc)? {
-        None => decide_all(alloc, sources, speech, rows),
-        Some(list) => decide_stale(alloc, sources, speech, rows, &list),
+        None => decide_all(alloc, sources, speech, rows, choices),
+        Some(list) => decide_stale(alloc, sources, speech, rows, &list, choices),
     }
 }
 
@@ -255,10 +275,12 @@ impl Outlet {
         &mut self,
         speech: Speech,
         sources: &Sources<'_>,
+        choices: &mut Choices,
     ) -> Result<Turned, AllocError>
         requires speech { self.old.speech ≡ Some speech }
         requires own { sources.now.client ≡ self.old.client }
         requires server { AreOfOneServer sources.now }
+        requires choices { AreChoices (held_by sources.now) sources.now.ins.now choices.old.kept.items }
         ensures client { self.new.client ≡ self.old.client }
         ensures extended { self.new.extended ≡ self.old.extended }
         ensures rest { self.new ≡ record self.old { loc = self.new.loc; told = self.new.told; touched = self.new.touched; stale = self.new.stale; marked = self.new.marked; waits = self.new.waits; numbers = self.new.numbers; last = self.new.last } }
@@ -274,12 +296,20 @@ impl Outlet {
         ensures exact { AreNumbered self.old sources.now.ins.now → WaitsAreExact self.old → OnOk result (WaitsAreExact self.new) }
         ensures refused { OnErr result (self.new ≡ self.old) }
         ensures numbered { AreNumbered self.old sources.now.ins.now → AreNumbered self.new sources.now.ins.now }
+        ensures choices { AreChoices (held_by sources.now) sources.now.ins.now choices.new.kept.items }
     {
         let Decided {
             changes,
             count,
             whole,
-        } = decide_all_touched(self.alloc, sources, speech, &self.rows, &self.touched)?;
+        } = decide_all_touched(
+            self.alloc,
+            sources,
+            speech,
+            &self.rows,
+            &self.touched,
+            choices,
+        )?;
         let turned = Turned {
             decided: count,
             whole,

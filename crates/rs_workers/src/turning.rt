@@ -3,12 +3,15 @@
 ghost use Rattle.std.specs.Prelude.{◌≡◌, ◌<◌, ◌≤◌, length};
 ghost use Rattle.rs_adjin.specs.AdjIns.{client_count, AreNoted};
 ghost use Rattle.rs_policy.specs.Noted.{note_of_import};
+ghost use Rattle.rs_outlet.specs.Decided.Choices.{AreChoices};
+ghost use Rattle.rs_outlet.specs.Decided.HeldBy.{tables_of};
 ghost use Rattle.rs_workers.specs.Turned.{ArePlaced, AllTurnedAlone, TurnedAlone};
 
 use crate::gate::Gate;
 use rs_adjin::AdjIns;
-use rs_outlet::Outlet;
+use rs_outlet::{Choices, Outlet};
 use rs_policy::Config;
+use std::alloc::Global;
 use std::sync::Wait;
 use std::thread;
 use std::thread::Threads;
@@ -17,6 +20,7 @@ use std::thread::Threads;
 /// by the number of workers, rounded up; the last may be shorter.
 pub fn turn_all<R: Threads + Wait + Sync, G: Gate>(
     rt: &R,
+    alloc: Global,
     workers: usize,
     tables: &AdjIns,
     config: &Config,
@@ -37,12 +41,13 @@ pub fn turn_all<R: Threads + Wait + Sync, G: Gate>(
     let turn = |start: usize, neighbours: &mut [Outlet]|
         requires { (0 < size) × (client_count tables.now ≡ length config.now.clients) × AreNoted (note_of_import config.now) tables.now × ArePlaced config.now neighbours.now }
         ensures { AllTurnedAlone config.entry.now tables.entry.now neighbours.entry.now neighbours.exit.now }
-    { turn_share(gate, start / size, tables, config, neighbours) };
+    { turn_share(alloc, gate, start / size, tables, config, neighbours) };
     thread::for_each_chunk_mut(rt, outlets, size, &turn);
 }
 
-/// Turns the outlets of one share, one after the other.
+/// Turns the outlets of one share, one after the other: choices that were made for one serve the next.
 pub(crate) fn turn_share<G: Gate>(
+    alloc: Global,
     gate: &G,
     share: usize,
     tables: &AdjIns,
@@ -55,17 +60,20 @@ pub(crate) fn turn_share<G: Gate>(
     ensures { AllTurnedAlone config.now tables.now outlets.old outlets.new }
 {
     gate.enter(share);
+    let mut choices = Choices::new(alloc);
     for k in 0..outlets.len() {
-        turn_one(&mut outlets[k], tables, config);
+        turn_one(&mut outlets[k], tables, config, &mut choices);
     }
 }
 
 /// Turns one outlet. Whether memory was refused stands in its `last`.
-fn turn_one(outlet: &mut Outlet, tables: &AdjIns, config: &Config)
+fn turn_one(outlet: &mut Outlet, tables: &AdjIns, config: &Config, choices: &mut Choices)
     requires clients { client_count tables.now ≡ length config.now.clients }
     requires noted { AreNoted (note_of_import config.now) tables.now }
     requires place { outlet.old.client < length config.now.clients }
-    ensures { TurnedAlone config.now tables.now outlet.old outlet.new }
+    requires choices { AreChoices (tables_of config.now tables.now) tables.now choices.old.kept.items }
+    ensures turned { TurnedAlone config.now tables.now outlet.old outlet.new }
+    ensures choices { AreChoices (tables_of config.now tables.now) tables.now choices.new.kept.items }
 {
-    let _ = outlet.turn(tables, config);
+    let _ = outlet.turn(tables, config, choices);
 }

@@ -18,8 +18,8 @@ decide_alone-requires-clause-noted c =
     All-head IsNoted ((c.in-Some.holder.client, arc_value c.in-Some.holder.attrs.now), c.in-Some.holder.note) c.next.new.self
     (subst (All IsNoted) c.in-Some.ensures.steps (c.at_number-holders.ensures.noted f c.requires.server.noted p c.requires.number))
 
-pub returns-in-Some : goal.returns-in-Some
-returns-in-Some c =
+pub returns-in-Some-clause-due : goal.returns-in-Some-clause-due
+returns-in-Some-clause-due c =
     let ins = c.args.sources.now.ins.now in
     let p = c.args.prefix.now in
     let h : ℕ × List Attribute = (c.in-Some.holder.client, arc_value c.in-Some.holder.attrs.now) in

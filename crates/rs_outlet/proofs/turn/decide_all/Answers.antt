@@ -1,4 +1,6 @@
-use Rattle.std.proofs.Common.{◌≡◌, ◌<◌, ◌≤◌, ℕ, Bool, true, false, cond, nat_lt, Some, arith, refl, rules}
+use Rattle.std.proofs.Common.{◌≡◌, ◌<◌, ◌≤◌, ℕ, Bool, true, false, cond, nat_lt, Some, arith, refl, rules, subst, sym}
+use Rattle.rs_outlet.specs.Decided.Choices.{AreChoices}
+use Rattle.rs_outlet.specs.declared.choices.Choices.{Choices}
 use Rattle.rs_octets.specs.Prefixes.{Prefix}
 use Rattle.rs_adjin.specs.AdjIns.{number_of}
 use Rattle.std.proofs.lemmas.Bool.Decides.{nat_tests}
@@ -17,6 +19,7 @@ loop-number-init c = record {
   changes =
       none_decided c.args.sources.now.ins.now (due_to (held_by c.args.sources.now) c.args.sources.now.client c.args.speech) c.args.rows.now.rows.items
       (λ m. nat_lt m 0) _ c.new-changes.ensures.items (λ m. grind (arith, nat_tests));
+  choices = subst (AreChoices (held_by c.args.sources.now) c.args.sources.now.ins.now) (sym c.from_choices-draft.ensures.made) c.requires.choices;
   most = omega arith;
   count = none_counted c.args.sources.now.ins.now c.args.rows.now.rows.items (any_holds (held_by c.args.sources.now));
 }
@@ -31,6 +34,7 @@ loop-number-preserved c =
       changes =
           next_decided ins (due_to (held_by c.args.sources.now) c.args.sources.now.client c.args.speech) rows
           c.loop-number.number c.loop-number.changes.items _ inv.changes c.in_ok-decided.ensures.changes;
+      choices = c.in_ok-decided.ensures.choices;
       most = omega (arith, inv.most, at_most_one c.in_ok-decided.decided, one);
       count =
           next_counted ins rows (any_holds (held_by c.args.sources.now)) c.loop-number.number c.loop-number.count c.from-count.result c.in_ok-decided.decided one
@@ -46,4 +50,5 @@ returns c =
       changes = all_decided ins (due_to (held_by c.args.sources.now) c.args.sources.now.client c.args.speech) rows c.loop-number.number c.loop-number.changes.items c.loop-number.invariant.changes below;
       count = all_counted ins rows (any_holds (held_by c.args.sources.now)) c.loop-number.number c.loop-number.count below c.loop-number.invariant.count;
       whole = refl;
+      choices = subst (λ (left : Choices). AreChoices (held_by c.args.sources.now) ins left.kept.items) (sym c.into_choices.ensures) c.loop-number.invariant.choices;
     }

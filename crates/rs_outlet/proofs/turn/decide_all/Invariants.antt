@@ -1,4 +1,5 @@
 use Rattle.std.proofs.Common.{◌≤◌, nat_lt}
+use Rattle.rs_outlet.specs.Decided.Choices.{AreChoices}
 use Rattle.rs_outlet.specs.Decided.Due.{any_holds, due_to}
 use Rattle.rs_outlet.specs.Decided.HeldBy.{held_by}
 use Rattle.rs_outlet.specs.Views.{IsNumberOf}
@@ -9,6 +10,7 @@ use Rattle.rs_outlet.proofs.turn.decide_all.Given as goal
 abbrev pub invariant-loop-number : goal.invariant-loop-number
 invariant-loop-number l = record {
   changes : AreDecided l.sources.ins.now (due_to (held_by l.sources) l.sources.client l.speech) l.rows.rows.items (λ m. nat_lt m l.number) l.changes.items;
+  choices : AreChoices (held_by l.sources) l.sources.ins.now l.draft.choices.kept.items;
   most : l.count ≤ l.number;
   count : IsNumberOf (is_counted_below l.sources.ins.now l.rows.rows.items (any_holds (held_by l.sources)) l.number) l.count;
 }

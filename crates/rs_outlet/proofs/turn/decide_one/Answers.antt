@@ -13,8 +13,8 @@ map_copied : {X Y : Type 0} (f : X → Y) (r : Option (Bor X)) → option_map (�
 map_copied f None = refl
 map_copied f (Some x) = refl
 
-pub returns-then-is_due : goal.returns-then-is_due
-returns-then-is_due c =
+pub returns-then-is_due-clause-decided : goal.returns-then-is_due-clause-decided
+returns-then-is_due-clause-decided c =
     let ins = c.args.sources.now.ins.now in
     let rows = c.args.rows.now.rows.items in
     let due_at = due_to (held_by c.args.sources.now) c.args.sources.now.client c.args.speech in
@@ -22,5 +22,5 @@ returns-then-is_due c =
     let p = c.args.prefix in
     let at : attributes_at rows n ≡ due_at p =
     sym c.attrs.ensures ∙ c.is_due.ensures c.if-is_due.true ∙ map_copied attributes_passed c.as_ref.result
-    ∙ ap (option_map attributes_passed) c.as_ref.ensures.value ∙ c.in_ok-due.ensures in
+    ∙ ap (option_map attributes_passed) c.as_ref.ensures.value ∙ c.in_ok-due.ensures.due in
     decided_there ins due_at rows n p _ c.requires.number (λ q there. number_once ins q p n there c.requires.number) at

@@ -1,4 +1,5 @@
-use Rattle.std.proofs.Common.{◌<◌, ◌+◌, length, take, arith, refl}
+use Rattle.std.proofs.Common.{◌<◌, ◌+◌, length, take, arith, refl, subst, sym}
+use Rattle.rs_outlet.specs.Decided.Choices.{AreChoices}
 use Rattle.rs_outlet.specs.Decided.Due.{due_to}
 use Rattle.rs_outlet.specs.Decided.HeldBy.{held_by}
 use Rattle.rs_outlet.specs.Decided.Touching.{is_numbered_in}
@@ -6,9 +7,12 @@ use Rattle.rs_outlet.proofs.Decided.Decisions.{none_decided, one_more_decided, e
 use Rattle.rs_outlet.proofs.turn.decide_touched.Goals as goal
 
 pub loop-number-init : goal.loop-number-init
-loop-number-init c =
-    none_decided c.args.sources.now.ins.now (due_to (held_by c.args.sources.now) c.args.sources.now.client c.args.speech) c.args.rows.now.rows.items
-    _ _ c.in_ok-changes.ensures.items (λ m. refl)
+loop-number-init c = record {
+  decided =
+      none_decided c.args.sources.now.ins.now (due_to (held_by c.args.sources.now) c.args.sources.now.client c.args.speech) c.args.rows.now.rows.items
+      _ _ c.in_ok-changes.ensures.items (λ m. refl);
+  choices = subst (AreChoices (held_by c.args.sources.now) c.args.sources.now.ins.now) (sym c.from_choices-draft.ensures.made) c.requires.choices;
+}
 
 pub loop-number-preserved : goal.loop-number-preserved
 loop-number-preserved c =
@@ -16,8 +20,12 @@ loop-number-preserved c =
     let i = c.loop-number.number-index in
     let e = c.loop-number-item.result in
     let below : i < length es = omega arith in
-    one_more_decided c.args.sources.now.ins.now (due_to (held_by c.args.sources.now) c.args.sources.now.client c.args.speech) c.args.rows.now.rows.items
-    (is_numbered_in (take i es)) (is_numbered_in (take (i + 1) es)) e.0 c.loop-number.changes.items _ c.loop-number.invariant
-    (entry_new es i e c.requires.once below c.loop-number-item.is)
-    c.in_ok-decide_number.ensures.changes
-    (entry_more es i e below c.loop-number-item.is)
+    record {
+      decided =
+          one_more_decided c.args.sources.now.ins.now (due_to (held_by c.args.sources.now) c.args.sources.now.client c.args.speech) c.args.rows.now.rows.items
+          (is_numbered_in (take i es)) (is_numbered_in (take (i + 1) es)) e.0 c.loop-number.changes.items _ c.loop-number.invariant.decided
+          (entry_new es i e c.requires.once below c.loop-number-item.is)
+          c.in_ok-decide_number.ensures.changes
+          (entry_more es i e below c.loop-number-item.is);
+      choices = c.in_ok-decide_number.ensures.choices;
+    }

@@ -1,8 +1,8 @@
 use Rattle.rs_workers.proofs.Answering.{answered}
 use Rattle.rs_workers.proofs.turning.turn_one.Goals as goal
 
-pub returns : goal.returns
-returns c =
+pub returns-clause-turned : goal.returns-clause-turned
+returns-clause-turned c =
     let old = c.args.outlet.now in
     let new = c.turn.new.self in
     record {

@@ -1,0 +1,26 @@
+-- The choice at a prefix, and the choices that are kept in a turn.
+use Rattle.std.specs.Prelude.{◌≡◌, ◌⊎◌, ◌<◌, ℕ, List, [], ◌∷◌, ◌++◌, Option, None, option_map, length, Some}
+use Rattle.std.specs.List.{AllByRecursion}
+use Rattle.rs_octets.specs.Prefixes.{Prefix}
+use Rattle.rs_adjin.specs.AdjIns.{number_of}
+use Rattle.rs_adjin.specs.declared.adj_ins.AdjIns.{AdjIns}
+use Rattle.rs_decision.specs.Choice.{best_of}
+use Rattle.rs_outlet.specs.declared.choices.Choice.{Choice}
+use Rattle.rs_outlet.specs.Decided.Due.{Held, holders_at, ranks_among}
+
+-- the sender of the best candidate's route for a client at a prefix
+abbrev pub chosen : Held → ℕ → Prefix → Option ℕ
+chosen t c p = option_map (λ best. best.place) (best_of (ranks_among t c p (holders_at t p)))
+
+-- a choice is that of its client, which has no route for the prefix itself
+pub record IsChoice (t : Held) (ins : AdjIns) (choice : Choice) : Type 0 where
+  pub known : choice.client < length t.settings.clients
+  pub absent : (p : Prefix) → number_of ins p ≡ Some choice.number → t.held choice.client p ≡ None
+  pub chosen : (p : Prefix) → number_of ins p ≡ Some choice.number → chosen t choice.client p ≡ choice.place
+
+abbrev pub AreChoices : Held → AdjIns → List Choice → Type 0
+AreChoices t ins kept = AllByRecursion (IsChoice t ins) kept
+
+-- it is kept behind the others, or not at all
+abbrev pub MayKeep : Choice → List Choice → List Choice → Type 0
+MayKeep choice old new = (new ≡ old) ⊎ (new ≡ old ++ choice ∷ [])
