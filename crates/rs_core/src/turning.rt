@@ -3,11 +3,13 @@
 ghost use Rattle.std.specs.Prelude.{◌≡◌, ◌<◌, ◌≤◌, ◌+◌, length};
 ghost use Rattle.rs_adjin.specs.AdjIns as adj_ins;
 ghost use Rattle.rs_core.specs.Touched.Turns.{IsMarked, IsTurn, refused_in};
+ghost use Rattle.rs_outlet.specs.Decided.Choices.{AreChoices};
+ghost use Rattle.rs_outlet.specs.Decided.HeldBy.{tables_of};
 ghost use Rattle.rs_workers.specs.Turned.{AllTurnedAlone};
 
 use crate::ribs::Ribs;
 use crate::route_server::Core;
-use rs_outlet::{Last, note_all};
+use rs_outlet::{Choices, Last, note_all};
 use rs_policy::Config;
 use rs_workers::{Gate, turn_all};
 use std::sync::Wait;
@@ -60,8 +62,9 @@ impl Ribs {
         ensures turned { ChangesAll (λ c. IsTurn self.old.config self.old.tables) self.old self.new }
         ensures kept { KeepsFresh self.old self.new }
     {
+        let mut choices = Choices::new(*self.outlets.allocator());
         for c in 0..self.count {
-            self.turn_one(c);
+            self.turn_one(c, &mut choices);
         }
     }
 
@@ -74,8 +77,10 @@ impl Ribs {
         ensures turned { IsNumbered self.old → ChangesAll (λ c. IsTurn self.old.config self.old.tables) self.old self.new }
         ensures kept { KeepsFresh self.old self.new }
     {
+        let alloc = *self.outlets.allocator();
         turn_all(
             rt,
+            alloc,
             workers,
             &self.tables,
             &self.config,
@@ -85,14 +90,16 @@ impl Ribs {
     }
 
     /// A turn of one client. Whether memory was refused stands in `last`.
-    fn turn_one(&mut self, c: usize)
-        requires { c < outlet_count self.old }
+    fn turn_one(&mut self, c: usize, choices: &mut Choices)
+        requires c { c < outlet_count self.old }
+        requires choices { AreChoices (tables_of self.old.config self.old.tables) self.old.tables choices.old.kept.items }
         ensures settings { KeepsSettings self.old self.new }
         ensures tables { self.new.tables ≡ self.old.tables }
         ensures outlet { ChangesOwn c (IsTurn self.old.config self.old.tables) self.old self.new }
+        ensures choices { AreChoices (tables_of self.old.config self.old.tables) self.old.tables choices.new.kept.items }
     {
         let outlet = &mut self.outlets[c];
-        let _ = outlet.turn(&self.tables, &self.config);
+        let _ = outlet.turn(&self.tables, &self.config, choices);
     }
 
     /// The answers of the last turn.

@@ -15,7 +15,7 @@ use rs_adjin::AdjIns;
 use rs_attrs::{Attrs, Mode};
 use rs_octets::Prefix;
 use rs_open::Limit;
-use rs_outlet::{Last, Outlet, Turned};
+use rs_outlet::{Choices, Last, Outlet, Turned};
 use rs_policy::{Config, import_note};
 use std::alloc::{AllocError, Global};
 use std::ops::Range;
@@ -123,7 +123,8 @@ impl Exchange {
     fn turn(&self, rt: &impl Abort, outlet: &mut Outlet) -> Result<Turned, AllocError> {
         assert!(rt; outlet.client() < self.config.clients());
         assert!(rt; self.tables.clients() == self.config.clients());
-        outlet.turn(&self.tables, &self.config)
+        let mut choices = Choices::new(self.alloc);
+        outlet.turn(&self.tables, &self.config, &mut choices)
     }
 
     /// A turn decides so much.

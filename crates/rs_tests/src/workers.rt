@@ -174,6 +174,7 @@ impl Exchange {
         let mut all = outlets(self.alloc, &self.config).expect(rt, "outlets");
         turn_all(
             rt,
+            self.alloc,
             workers,
             &self.tables,
             &self.config,

@@ -1,20 +1,37 @@
-use Rattle.std.proofs.Common.{subst}
+use Rattle.std.proofs.Common.{subst, sym}
+use Rattle.rs_outlet.specs.Decided.Choices.{AreChoices}
+use Rattle.rs_outlet.specs.Decided.HeldBy.{tables_of}
 use Rattle.rs_core.specs.Touched.Turns.{IsTurn}
 use Rattle.rs_core.proofs.Run.Loops.{walk_begins, walk_on, walk_ends, all_changed, all_numbered}
 use Rattle.rs_core.proofs.Touched.Turned.{turn_numbered, turned_fresh}
 use Rattle.rs_core.proofs.ribs.Ribs.turn.Goals as goal
 
 pub loop-c-init : goal.loop-c-init
-loop-c-init c = walk_begins _ c.args.self.now
+loop-c-init c = record {
+  walked = walk_begins _ c.args.self.now;
+  choices = subst (AreChoices (tables_of c.args.self.now.config c.args.self.now.tables) c.args.self.now.tables) (sym c.new.ensures) tt;
+}
+
+pub turn_one-requires-clause-choices : goal.turn_one-requires-clause-choices
+turn_one-requires-clause-choices c =
+    subst (λ ins. AreChoices (tables_of c.loop-c.self.config ins) ins c.loop-c.choices.kept.items) (sym c.loop-c.invariant.walked.tables)
+    (subst (λ config. AreChoices (tables_of config c.args.self.now.tables) c.args.self.now.tables c.loop-c.choices.kept.items) (sym c.loop-c.invariant.walked.settings.config) c.loop-c.invariant.choices)
 
 pub loop-c-preserved : goal.loop-c-preserved
 loop-c-preserved c =
-    walk_on _ _ c.loop-c.c c.args.self.now c.loop-c.self c.turn_one.new.self c.loop-c-test.true c.loop-c.invariant c.turn_one.ensures.settings c.turn_one.ensures.tables c.turn_one.ensures.outlet
-    (λ v w so. subst (λ config. IsTurn config c.args.self.now.tables v w) c.loop-c.invariant.settings.config (subst (λ ins. IsTurn c.loop-c.self.config ins v w) c.loop-c.invariant.tables so))
+    let walked = c.loop-c.invariant.walked in
+    record {
+      walked =
+          walk_on _ _ c.loop-c.c c.args.self.now c.loop-c.self c.turn_one.new.self c.loop-c-test.true walked c.turn_one.ensures.settings c.turn_one.ensures.tables c.turn_one.ensures.outlet
+          (λ v w so. subst (λ config. IsTurn config c.args.self.now.tables v w) walked.settings.config (subst (λ ins. IsTurn c.loop-c.self.config ins v w) walked.tables so));
+      choices =
+          subst (λ config. AreChoices (tables_of config c.args.self.now.tables) c.args.self.now.tables c.turn_one.new.choices.kept.items) walked.settings.config
+          (subst (λ ins. AreChoices (tables_of c.loop-c.self.config ins) ins c.turn_one.new.choices.kept.items) walked.tables c.turn_one.ensures.choices);
+    }
 
 pub returns : goal.returns
 returns c =
-    let done = walk_ends (λ k. IsTurn c.args.self.now.config c.args.self.now.tables) c.loop-c.c c.args.self.now c.loop-c.self c.loop-c.auto.c-end c.loop-c-test.false c.loop-c.invariant in
+    let done = walk_ends (λ k. IsTurn c.args.self.now.config c.args.self.now.tables) c.loop-c.c c.args.self.now c.loop-c.self c.loop-c.auto.c-end c.loop-c-test.false c.loop-c.invariant.walked in
     record {
       settings = done.settings;
       tables = done.tables;
