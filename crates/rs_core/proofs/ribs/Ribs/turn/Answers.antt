@@ -9,7 +9,7 @@ use Rattle.rs_core.proofs.ribs.Ribs.turn.Goals as goal
 pub loop-c-init : goal.loop-c-init
 loop-c-init c = record {
   walked = walk_begins _ c.args.self.now;
-  choices = subst (AreChoices (tables_of c.args.self.now.config c.args.self.now.tables) c.args.self.now.tables) (sym c.new.ensures) tt;
+  choices = subst (AreChoices (tables_of c.args.self.now.config c.args.self.now.tables) c.args.self.now.tables) (sym c.new-choices.ensures) tt;
 }
 
 pub turn_one-requires-clause-choices : goal.turn_one-requires-clause-choices
