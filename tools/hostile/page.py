@@ -3,7 +3,7 @@ import datetime
 import os
 import platform
 
-from .table import ROWS, SHORT_SLACK, SLACK
+from .table import FLOOD_SLACK, ROWS, SHORT_SLACK, SLACK
 
 INTRODUCTION = """
 What a member with nothing but valid octets, a stranger or an accident can do to others' sessions and to the time that they wait.
@@ -15,7 +15,7 @@ WORDS = f"""
 
 - **A change waits**: one of two members changes a prefix some twenty times a second (beside `--reload` as often as it can), and the other waits for it, from when the first writes the UPDATE.
 - **Lost**: the session ended, by the NOTIFICATION that the member was sent or by the connection's end alone.
-- **Load**: the load average of one minute when the row began; above four the server waits for a processor too. A change may wait {SLACK:g} s longer than "To be" says ({SHORT_SLACK:g} s in rows e, i and n).
+- **Load**: the load average of one minute when the row began; above four the server waits for a processor too. A change may wait {SLACK:g} s longer than "To be" says ({FLOOD_SLACK:g} s in row b, {SHORT_SLACK:g} s in rows e, i and n).
 """
 
 

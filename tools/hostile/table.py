@@ -11,7 +11,7 @@ OURS, BOTH, THREE = ("ours",), ("ours", "bird"), ("ours", "bird", "openbgpd")
 # The server that a row's verdict needs beside ours.
 NEEDED = {"j": "bird-tables"}
 # What a change may wait beyond the bound of a row, in seconds, since the machine has other work too.
-SLACK, SHORT_SLACK = 0.1, 0.5
+SLACK, SHORT_SLACK, FLOOD_SLACK = 0.1, 0.5, 0.001
 
 
 def missed(*them):
@@ -41,7 +41,7 @@ def chains_cost_nothing(seen, short):
 
 def flood_is_borne(seen, short):
     it = seen["ours"].figures
-    return missed((it["lost"] == 0, "sessions lost"), (it["over"] <= slack(short), "p99 is more than twice that without the flood"))
+    return missed((it["lost"] == 0, "sessions lost"), (it["over"] <= (SHORT_SLACK if short else FLOOD_SLACK), "p99 is more than twice that without the flood"))
 
 
 def streams_are_borne(seen, short):
