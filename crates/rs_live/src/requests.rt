@@ -11,7 +11,7 @@ const COUNTED: u64 = 60;
 const FREE: u32 = 1;
 
 /// For how many seconds a client rests after each further one.
-const CALM: u64 = 10;
+const CALM: u64 = 20;
 
 /// How many octets a message's marker has, and its header, whose last one is the type (RFC 4271, 4.1).
 const MARKER: usize = 16;

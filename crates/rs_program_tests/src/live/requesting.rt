@@ -1,4 +1,4 @@
-//! A member that asks for all its routes in more than one piece within a minute: it is read ten seconds later.
+//! A member that asks for all its routes in more than one piece within a minute: it is read twenty seconds later.
 
 use crate::common::{config, is_of};
 use crate::live::rounds::{A_OPENS, COMING_UP, CONFIRMS, ENDLESS, MEMBER_A, MEMBER_B, UPDATE};
@@ -46,7 +46,7 @@ static ROWS: [(&[Said], u64, usize); 6] = [
     (&[A_OPENS, CONFIRMS, ROUTE], 9, TOLD),
     (&[A_OPENS, CONFIRMS, THREE, ROUTE], 9, TOLD),
     (&[A_OPENS, CONFIRMS, THREE, THREE, ROUTE], 9, UNTOLD),
-    (&[A_OPENS, CONFIRMS, THREE, THREE, ROUTE], 20, TOLD),
+    (&[A_OPENS, CONFIRMS, THREE, THREE, ROUTE], 30, TOLD),
     (&[A_OPENS, CONFIRMS, FRONT, BACK, ROUTE], 9, TOLD),
     (
         &[A_OPENS, CONFIRMS, FRONT, BACK, FRONT, BACK, ROUTE],
