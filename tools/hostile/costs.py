@@ -35,10 +35,11 @@ def beside_routes(exchange, stack, count, routes, each=3):
 class Attack:
     """An attack beside honest members of `routes` routes each: the waits of changes before and during it, and the sessions lost.
 
-    `more` is for the attack alone.
+    With `ready`, the attacker has so many seconds to come up and to be told all, which is no part of the attack. `more` is for the
+    attack alone.
     """
 
-    def __init__(self, exchange, attack, seconds, members, routes, each=3, before=4, **more):
+    def __init__(self, exchange, attack, seconds, members, routes, each=3, before=4, ready=0, **more):
         stack, self.samples = [], []
         try:
             honest, probing = beside_routes(exchange, stack, members, routes, each)
@@ -46,6 +47,9 @@ class Attack:
             self.first = time.monotonic()
             hostile = Beside(attack, exchange.place, **more)
             stack.append(hostile)
+            if ready:
+                hostile.ready(ready)
+                self.first = time.monotonic()
             self.sample(exchange, seconds, hostile.is_done)
             self.last = time.monotonic()
             self.seen = hostile.end()
@@ -115,9 +119,19 @@ def chains(target, routes, late, most, members, base, ruled):
     return Seen(figures, "; ".join(words), spans)
 
 
+def told_most(it, most=60, little=65536):
+    """Waits until a member is told little within a second: what it is owed as it comes up, but for changes of others, is told then."""
+    until, told = time.monotonic() + most, -little
+    while time.monotonic() < until and it.octets - told >= little:
+        told = it.octets
+        speak([it], 1)
+
+
 def flood(over, say, place, reads):
     """ROUTE-REFRESH without end, by a member that reads what comes of it or doesn't; how many were sent."""
     it = come_up([Member(place, ATTACKER, capabilities=REFRESH)])[0]
+    told_most(it)
+    say()
     requests, sent = message(ROUTE_REFRESH, b"\0\1\0\1") * 100 + message(KEEPALIVE), 0
     while not (over.is_set() or it.ended):
         if not it.out:
@@ -130,7 +144,8 @@ def flood(over, say, place, reads):
 def burst(over, say, place, requests):
     """So many ROUTE-REFRESH at once."""
     it = come_up([Member(place, ATTACKER, capabilities=REFRESH)])[0]
-    speak([it], 60, lambda: over.is_set() or time.monotonic() > it.beat + 3)
+    told_most(it)
+    say()
     it.out += message(ROUTE_REFRESH, b"\0\1\0\1") * requests
     while not over.is_set():
         speak([it], 0.3)
@@ -145,7 +160,7 @@ def refreshes(target, members, routes, seconds, deaf, many):
     figures, words, spans = {"lost": 0, "over": float("-inf")}, [], []
     for name, attack, each, share, more in plays:
         with Exchange(target, 64, top={"ours": "refresh = true"}) as exchange:
-            seen = Attack(exchange, attack, seconds, members, each, share, seconds / 2, **more)
+            seen = Attack(exchange, attack, seconds, members, each, share, seconds / 2, ready=100, **more)
         calm, now = quantile(seen.before, 0.99), quantile(seen.during, 0.99)
         figures["lost"] += seen.lost
         figures["over"] = max(figures["over"], now - 2 * calm)
