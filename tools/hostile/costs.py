@@ -15,6 +15,8 @@ from .targets import Exchange
 # Attributes whose octets end a block with this have one sum in the hash by which rs_outlet puts slots in order first, whatever its key.
 CHOSEN = (0x9E3779B97F4A7C15).to_bytes(8, "little")
 ATTACKER = 2
+# Honest members have places from 10 on; members that come up late from here on.
+LATE = 40
 # A community, and the rules that take it out of each route.
 TAKEN, TAKING = bytes.fromhex("fbf40001"), 'export = [ { action = "pass", strip = ["64500:1"] } ]\n'
 # Prefixes of attackers: the first is out of all honest members' reach.
@@ -92,7 +94,7 @@ def come_late(over, say, place, owed, chosen, more, late, most):
     speak([first], 3)
     took = []
     for at in range(late):
-        it, began = Counting(place, ATTACKER + 1 + at), time.monotonic()
+        it, began = Counting(place, LATE + at), time.monotonic()
         it.mark = attribute(0x40, 3, socket.inet_aton(next_hop(ATTACKER)))
         speak([first, it], most, lambda: it.ended or over.is_set() or it.count >= owed)
         took.append(time.monotonic() - began if it.count >= owed else float("inf"))

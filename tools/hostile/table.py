@@ -34,6 +34,7 @@ def chains_cost_nothing(seen, short):
     kinds = [kind for kind in ("", " stripped") if f"chosen{kind} wait" in it]
     return missed(
         (it["lost"] == 0, "sessions lost"),
+        *((it[f"{which}{kind} late"] < float("inf"), "a late member is not told all") for kind in kinds for which in ("plain", "chosen")),
         *((it[f"chosen{kind} wait"] <= 2 * it[f"plain{kind} wait"] + more, "a change waits longer than with other attributes") for kind in kinds),
         *((it[f"chosen{kind} late"] <= 2 * it[f"plain{kind} late"] + more, "a late member waits longer than with other attributes") for kind in kinds),
     )
