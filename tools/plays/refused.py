@@ -4,8 +4,9 @@ play.py refused PROGRAM FOLDER
 
 Of the requests for memory of a session, by 1 and by 2 workers, each is refused in a run of its own. It must show as a
 line `memory NAME`, with `close NAME` where octets came and without at a turn; as `rules refused: out of memory`; or as status 3
-with the words `out of memory`, and then what was written is a front of what is written else. Two kinds show as nothing: the
-one request of READING, and those by which a thread is started for a turn by 2 workers, which is then done on one. Behind the
+with the words `out of memory`, and then what was written is a front of what is written else. Three kinds show as nothing: the
+one request of READING, those by which a thread is started for a turn by 2 workers, which is then done on one, and those of a turn
+for choices that serve other clients too, which are then made anew for these. Behind the
 session the clients that were lost come again and say again what they said, a turn and room for all follow, and each
 Established client must hold what the plain function says (`holding.py`).
 """
@@ -114,6 +115,8 @@ class Refusals:
 
 # Each turn by two workers starts a thread, for which this many requests are made.
 OF_A_THREAD = 1
+# For the choices of a turn a worker makes this many.
+OF_CHOICES = 1
 
 
 def sweep(program, library, folder, name, workers):
@@ -125,11 +128,13 @@ def sweep(program, library, folder, name, workers):
         kinds[refusals.kind(number, played)] += 1
         if not played.status and (found := asked(played).wrong):
             otherwise.append(f"{found} where request {number} is refused")
+    turns = refusals.lines.count("turn")
     most = {
         "in a line": number,
         "by status 3": number,
         "nowhere, by the words": READING,
-        "nowhere, by a thread": OF_A_THREAD * refusals.lines.count("turn"),
+        "nowhere, at turn": OF_CHOICES * turns,
+        "nowhere, by a thread": (OF_A_THREAD + OF_CHOICES * workers) * turns,
     }
     wrong = [f"{count} shown {kind}" for kind, count in kinds.items() if count > most.get(kind, 0)] + otherwise
     told = ", ".join(f"{count} {kind}" for kind, count in sorted(kinds.items()))
