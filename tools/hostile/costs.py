@@ -37,7 +37,7 @@ def beside_routes(exchange, stack, count, routes, each=3):
 class Attack:
     """An attack beside honest members of `routes` routes each: the waits of changes before and during it, and the sessions lost.
 
-    With `ready`, the attacker has so many seconds to come up and to be told all, which is no part of the attack. `more` is for the
+    With `ready`, the attacker has so many seconds to come up and to be told all, which is part of neither. `more` is for the
     attack alone.
     """
 
@@ -46,7 +46,7 @@ class Attack:
         try:
             honest, probing = beside_routes(exchange, stack, members, routes, each)
             self.sample(exchange, before)
-            self.first = time.monotonic()
+            self.first = calm = time.monotonic()
             hostile = Beside(attack, exchange.place, **more)
             stack.append(hostile)
             if ready:
@@ -61,7 +61,7 @@ class Attack:
         finally:
             for it in stack:
                 it.process.kill()
-        self.before, self.during = self.waits.between(0, self.first), self.waits.between(self.first, self.last)
+        self.before, self.during = self.waits.between(0, calm), self.waits.between(self.first, self.last)
 
     def sample(self, exchange, seconds, done=lambda: False):
         """Notes the server's processor time now and then, for so many seconds."""
