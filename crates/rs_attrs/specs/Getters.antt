@@ -9,6 +9,7 @@ use Rattle.rs_attrs.specs.Writing.{path_in}
 use Rattle.rs_attrs.specs.Table.{Row, row_of, is_kept, is_well_formed}
 use Rattle.rs_attrs.specs.declared.mode.Mode.TheVariants.{Four}
 use Rattle.rs_attrs.specs.declared.getters.AttributeRef.{AttributeRef}
+use Rattle.rs_attrs.specs.declared.getters.Tags.{Tags}
 use Rattle.rs_attrs.specs.declared.patterns.LargeCommunity.{LargeCommunity}
 use Rattle.rs_attrs.specs.Types as types
 
@@ -38,6 +39,13 @@ communities_of m = unwrap_or (option_map quads (value_of types.communities m)) [
 -- LARGE_COMMUNITY (RFC 8092, 3), none where there is no such attribute
 abbrev pub large_communities_of : List Attribute → List LargeCommunity
 large_communities_of m = unwrap_or (option_map large_communities_in (value_of types.large_community m)) []
+
+-- the same of those that were found
+abbrev pub tagged : Tags → List ℕ
+tagged t = quads t.communities.now
+
+abbrev pub large_tagged : Tags → List LargeCommunity
+large_tagged t = large_communities_in t.large.now
 
 abbrev pub has_community : ℕ → List Attribute → Bool
 has_community community m = list_any (λ c. c == community) (communities_of m)

@@ -6,6 +6,7 @@ use Rattle.rs_attrs.specs.declared.patterns.CommunityPattern.{CommunityPattern}
 use Rattle.rs_attrs.specs.declared.patterns.LargeCommunityPattern.{LargeCommunityPattern}
 use Rattle.rs_attrs.specs.declared.patterns.LargeCommunity.{LargeCommunity}
 use Rattle.rs_attrs.specs.declared.stripping.Strip.{Strip}
+use Rattle.rs_attrs.specs.declared.stripping.OwnedStrip.{OwnedStrip}
 use Rattle.rs_attrs.specs.Meaning.{Attribute}
 use Rattle.rs_attrs.specs.Paths.{quads}
 use Rattle.rs_attrs.specs.Patterns.{is_like, is_like_large, large_communities_in, parts_of, triples}
@@ -24,6 +25,14 @@ taken_by strip = record {
   communities = map (λ patterns. patterns.now) strip.communities;
   all_communities = strip.all_communities;
   large = map (λ patterns. patterns.now) strip.large;
+  all_large = strip.all_large;
+}
+
+abbrev pub taken_by_owner : OwnedStrip → Taken
+taken_by_owner strip = record {
+  communities = strip.communities.items ∷ strip.more_communities.items ∷ [];
+  all_communities = strip.all_communities;
+  large = strip.large.items ∷ strip.more_large.items ∷ [];
   all_large = strip.all_large;
 }
 

@@ -35,7 +35,7 @@ mod writing;
 
 pub use attrs::Attrs;
 pub use faults::{AttributeFault, Cause, Faulted, Faults};
-pub use getters::AttributeRef;
+pub use getters::{AttributeRef, Tags};
 pub use laws::{
     attributes_are_legal, changes_overlay, fields_are_read, fields_mean_one, paths_are_read,
     slices_are_octets, spelling_reads_back,
@@ -44,7 +44,7 @@ pub use mode::Mode;
 pub use patterns::{CommunityPattern, LargeCommunityPattern};
 pub use reading::{Parsed, read};
 pub use segments::{Numbers, PathSegment, Segments};
-pub use stripping::{Strip, stripped};
+pub use stripping::{OwnedStrip, Strip, stripped};
 pub use table::attribute_name;
 pub use types::{
     AGGREGATOR, AS_PATH, AS4_AGGREGATOR, AS4_PATH, ATOMIC_AGGREGATE, CLUSTER_LIST, COMMUNITIES,

@@ -10,7 +10,7 @@ ghost use Rattle.rs_attrs.specs.Meaning.{get};
 ghost use Rattle.rs_attrs.specs.Paths.{quads};
 ghost use Rattle.rs_attrs.specs.Patterns.{large_communities_in, parts_of};
 ghost use Rattle.rs_attrs.specs.Types as types;
-ghost use Rattle.rs_attrs.specs.Stripping.{is_stripped, is_stripped_large, left_of, numbers_left, stripped_of, taken_by, unstripped, unstripped_large};
+ghost use Rattle.rs_attrs.specs.Stripping.{is_stripped, is_stripped_large, left_of, numbers_left, stripped_of, taken_by, taken_by_owner, unstripped, unstripped_large};
 
 use crate::attrs::{Attrs, Head};
 use crate::patterns::{
@@ -145,6 +145,49 @@ impl Strip<'_> {
     {
         let _legal = &attrs.heads;
         self.changes_communities(attrs) || self.changes_large(attrs)
+    }
+}
+
+/// A `Strip` that owns its patterns.
+#[derive(Debug, Drop)]
+pub struct OwnedStrip {
+    communities: Vec<CommunityPattern>,
+    more_communities: Vec<CommunityPattern>,
+    all_communities: bool,
+    large: Vec<LargeCommunityPattern>,
+    more_large: Vec<LargeCommunityPattern>,
+    all_large: bool,
+}
+
+impl OwnedStrip {
+    /// A copy of the patterns.
+    ///
+    /// # Errors
+    ///
+    /// `AllocError` where memory was refused.
+    pub fn of(alloc: Global, strip: &Strip<'_>) -> Result<OwnedStrip, AllocError>
+        ensures { IfOk result (λ owned. taken_by_owner owned ≡ taken_by strip.now) }
+    {
+        Ok(OwnedStrip {
+            communities: Vec::from_slice(alloc, strip.communities[0])?,
+            more_communities: Vec::from_slice(alloc, strip.communities[1])?,
+            all_communities: strip.all_communities,
+            large: Vec::from_slice(alloc, strip.large[0])?,
+            more_large: Vec::from_slice(alloc, strip.large[1])?,
+            all_large: strip.all_large,
+        })
+    }
+
+    /// The patterns, lent.
+    pub fn lent(&self) -> Strip<'_>
+        ensures { taken_by result ≡ taken_by_owner self.now }
+    {
+        Strip {
+            communities: [&self.communities, &self.more_communities],
+            all_communities: self.all_communities,
+            large: [&self.large, &self.more_large],
+            all_large: self.all_large,
+        }
     }
 }
 

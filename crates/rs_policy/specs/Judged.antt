@@ -1,7 +1,7 @@
 -- What a route and a verdict of the code stand for.
 use Rattle.rs_attrs.specs.Stripping.{taken_by}
 use Rattle.rs_policy.specs.Verdicts.{AnnouncedRoute, Passing, Judgement, dropped, passed}
-use Rattle.rs_policy.specs.declared.rules.matching.Offer.{Offer}
+use Rattle.rs_policy.specs.declared.rules.offer.Offer.{Offer}
 use Rattle.rs_policy.specs.declared.rules.verdict.Passed.{Passed}
 use Rattle.rs_attrs.specs.declared.stripping.Strip.{Strip}
 use Rattle.rs_policy.specs.declared.rules.verdict.Fate.{Fate}

@@ -3,6 +3,7 @@
 pub(crate) mod alike;
 mod matching;
 pub(crate) mod noting;
+mod offer;
 pub(crate) mod reasons;
 pub(crate) mod verdict;
 

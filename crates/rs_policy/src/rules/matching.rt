@@ -8,24 +8,10 @@ ghost use Rattle.rs_policy.specs.Configuration.{list_at};
 ghost use Rattle.rs_policy.specs.Judged.{offered};
 
 use crate::config::named_lists::NamedList;
+use crate::rules::offer::Offer;
 use crate::rules::{CommunityTest, LargeCommunityTest, Range, Rule, Tests};
 use rs_attrs::{Attrs, PathSegment};
 use rs_octets::Prefix;
-
-/// A route as its sender announced it.
-#[derive(Clone, Copy)]
-pub(super) struct Offer<'p, 'a> {
-    /// The sender's place, from 0.
-    pub(super) from: usize,
-    /// The sender's address.
-    pub(super) peer: u32,
-    /// The sender's AS number.
-    pub(super) peer_as: u32,
-    pub(super) prefix: &'p Prefix,
-    pub(super) attrs: &'a Attrs,
-    /// The AS number of the client to which it goes.
-    pub(super) to_as: u32,
-}
 
 fn front(len: u8, bits: u32) -> u64
     requires { len ≤ 32 }
@@ -155,14 +141,14 @@ fn has_community(test: CommunityTest, offer: &Offer<'_, '_>) -> bool
     ensures { result ≡ has_community test (offered offer.now) }
 {
     let pattern = test.pattern_for(offer.to_as);
-    offer.attrs.has_community_like(&pattern)
+    offer.tags.has_community_like(&pattern)
 }
 
 fn has_large_community(test: LargeCommunityTest, offer: &Offer<'_, '_>) -> bool
     ensures { result ≡ has_large_community test (offered offer.now) }
 {
     let pattern = test.pattern_for(offer.to_as);
-    offer.attrs.has_large_community_like(&pattern)
+    offer.tags.has_large_community_like(&pattern)
 }
 
 /// The tests that walk communities and paths.

@@ -12,7 +12,7 @@ ghost use Rattle.rs_policy.specs.Verdicts.{verdict};
 
 use crate::config::Config;
 use crate::config::shared_rules::SharedRules;
-use crate::rules::matching::Offer;
+use crate::rules::offer::Offer;
 use crate::rules::reasons::{Decider, first_decider};
 use crate::rules::verdict::{
     Passed, Verdict, export_to, judge_without_rules, offer_to, outcome, passed_by, plainly,

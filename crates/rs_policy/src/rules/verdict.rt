@@ -9,7 +9,8 @@ ghost use Rattle.rs_policy.specs.Judged.{offered, passed_as, judged};
 use crate::config::Config;
 use crate::config::named_lists::NamedList;
 use crate::config::shared_rules::SharedRules;
-use crate::rules::matching::{Offer, matches};
+use crate::rules::matching::matches;
+use crate::rules::offer::Offer;
 use crate::rules::{Action, Disposition, Item, Rule, Rules};
 use rs_attrs::{Attrs, CommunityPattern, LargeCommunityPattern, Strip};
 use rs_octets::Prefix;
@@ -220,6 +221,7 @@ pub(super) fn offer_to<'p, 'a>(
         peer_as: config.client_as(from),
         prefix,
         attrs,
+        tags: attrs.tags(),
         to_as: config.client_as(to),
     }
 }

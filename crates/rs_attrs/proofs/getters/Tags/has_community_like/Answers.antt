@@ -1,11 +1,11 @@
 use Rattle.std.proofs.Common.{rules, tests}
 use Rattle.std.proofs.lemmas.Iterator.Consumers.{YieldsList-from_first}
 use Rattle.std.proofs.lemmas.Iterator.Search.{any_from_yields_List}
-use Rattle.rs_attrs.specs.Getters.{communities_of}
+use Rattle.rs_attrs.specs.Getters.{tagged}
 use Rattle.rs_attrs.specs.Patterns.{is_like}
-use Rattle.rs_attrs.proofs.attrs.Attrs.has_community_like.Goals as goal
+use Rattle.rs_attrs.proofs.getters.Tags.has_community_like.Goals as goal
 
 pub returns : goal.returns
 returns c =
     any_from_yields_List (is_like c.args.pattern.now) _ _ _ c.any.ensures.ran
-    (YieldsList-from_first (λ n. n) (λ numbers. numbers) (communities_of c.args.self.now) c.communities.ensures) (λ x b q k. search (rules, tests))
+    (YieldsList-from_first (λ n. n) (λ numbers. numbers) (tagged c.args.self.now) c.of.ensures.numbers) (λ x b q k. search (rules, tests))
