@@ -6,7 +6,7 @@ Of the requests for memory of a session, by 1 and by 2 workers, each is refused 
 line `memory NAME`, with `close NAME` where octets came and without at a turn; as `rules refused: out of memory`; or as status 3
 with the words `out of memory`, and then what was written is a front of what is written else. Three kinds show as nothing: the
 one request of READING, those by which a thread is started for a turn by 2 workers, which is then done on one, and those of a turn
-for choices that serve other clients too, which are then made anew for these. Behind the
+for what serves other clients too, choices and what rules left of routes, which is then made anew for these. Behind the
 session the clients that were lost come again and say again what they said, a turn and room for all follow, and each
 Established client must hold what the plain function says (`holding.py`).
 """
@@ -115,7 +115,7 @@ class Refusals:
 
 # Each turn by two workers starts a thread, for which this many requests are made.
 OF_A_THREAD = 1
-# For the choices of a turn a worker makes this many.
+# For what serves other clients too a worker makes this many at a turn.
 OF_CHOICES = 1
 
 

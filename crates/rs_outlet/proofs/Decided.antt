@@ -8,6 +8,7 @@ pub mod Touches
 pub mod TouchedNumbers
 pub mod TouchedList
 pub mod Ranks
+pub mod Rests
 pub mod OthersAlone
 pub mod Shared
 pub mod Counting

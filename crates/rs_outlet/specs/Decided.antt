@@ -5,5 +5,6 @@ pub mod Alike
 pub mod HeldBy
 pub mod Passing
 pub mod Choices
+pub mod Rests
 pub mod Turns
 pub mod Counted

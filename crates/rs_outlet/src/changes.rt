@@ -157,7 +157,6 @@ pub(crate) fn make_room(
     ensures used { rows.new.used ≡ rows.old.used }
     ensures capacity { vec_capacity waits.old.slots ≤ vec_capacity waits.new.slots }
 {
-    let fresh = Vec::with_capacity(alloc, changes)?;
     rows.grow(numbers)?;
     let Some(more) = rows.used().checked_add(changes) else {
         return Err(AllocError);
@@ -166,6 +165,7 @@ pub(crate) fn make_room(
         return Err(AllocError);
     };
     waits.reserve(count)?;
+    let fresh = Vec::with_capacity(alloc, waits.room_for(changes))?;
     Ok(fresh)
 }
 

@@ -1,9 +1,10 @@
 //! The choices of a turn of neighbouring outlets: where clients are decided alike, the best route for a prefix is
-//! found once.
+//! found once. Beside them stands what rules left of routes.
 
 ghost use Rattle.std.specs.Prelude.{◌≡◌, Some, None, ℕ, Option, [], IfSome, Contains};
 ghost use Rattle.rs_outlet.specs.Decided.Choices.{MayKeep};
 
+use crate::stripped::Stripped;
 use std::alloc::Global;
 
 /// How many choices are kept.
@@ -23,6 +24,8 @@ pub struct Choices {
     pub(crate) kept: Vec<Choice>,
     /// Where the next choice is looked for.
     next: usize,
+    /// The routes that rules changed.
+    pub(crate) stripped: Stripped,
 }
 
 /// The first place from one on whose choice is for no lesser number; where there is none, the end.
@@ -43,6 +46,7 @@ impl Choices {
         Choices {
             kept: Vec::new(alloc),
             next: 0,
+            stripped: Stripped::new(alloc),
         }
     }
 
@@ -51,6 +55,7 @@ impl Choices {
         ensures { self.new.kept.items ≡ self.old.kept.items }
     {
         self.next = 0;
+        self.stripped.begin();
     }
 
     /// The choice at the prefix of a number, which is greater than those asked for before.

@@ -18,8 +18,9 @@ ghost use Rattle.rs_outlet.specs.Decided.Passing.{attributes_passed, due_alone, 
 
 use crate::answers::Speech;
 use crate::choices::{Choice, Choices};
+use crate::stripped::Stripped;
 use rs_adjin::{AdjIns, Holder, Holders};
-use rs_attrs::{Attrs, Strip, stripped};
+use rs_attrs::{Attrs, Strip};
 use rs_decision::{Rank, best};
 use rs_octets::Prefix;
 use rs_packer::fits;
@@ -36,60 +37,29 @@ pub(crate) struct Sources<'a> {
     pub(crate) client: usize,
 }
 
-/// A route that rules changed: what its sender announced, what is taken out of it, and what is left.
+/// What one decision of a turn leaves to the next: room for ranks, and choices that serve other clients too.
 #[derive(Drop)]
-pub(crate) struct Changed<'a> {
-    whole: Arc<Attrs>,
-    strip: Strip<'a>,
-    rest: Arc<Attrs>,
-    ghost left: { arc_value rest ≡ stripped_of (taken_by strip) (arc_value whole) },
-}
-
-impl Changed<'_> {
-    /// What is left of these attributes by these patterns, where it is they that were changed.
-    fn rest_of(&self, attrs: &Attrs, strip: &Strip<'_>) -> Option<&Arc<Attrs>>
-        ensures { IfSome result (λ rest. arc_value rest.now ≡ stripped_of (taken_by strip.now) attrs.now) }
-    {
-        if *self.whole == *attrs && self.strip.is_same(strip) {
-            Some(&self.rest)
-        } else {
-            None
-        }
-    }
-}
-
-/// What one decision of a turn leaves to the next: room for ranks, the last route that rules changed, and choices that
-/// serve other clients too.
-#[derive(Drop)]
-pub(crate) struct Draft<'a> {
+pub(crate) struct Draft {
     ranks: Vec<Rank>,
-    last: Option<Changed<'a>>,
     pub(crate) choices: Choices,
 }
 
-impl<'a> Draft<'a> {
-    pub(crate) fn new(alloc: Global, choices: Choices) -> Draft<'a>
-        ensures { result.choices ≡ choices }
-    {
-        Draft {
-            ranks: Vec::new(alloc),
-            last: None,
-            choices,
-        }
-    }
-
+impl Draft {
     /// Begins with the choices that were kept, which are gone where they were.
-    pub(crate) fn from_choices(alloc: Global, choices: &mut Choices) -> Draft<'a>
+    pub(crate) fn from_choices(alloc: Global, choices: &mut Choices) -> Draft
         ensures made { result.choices.kept.items ≡ choices.old.kept.items }
         ensures none { choices.new.kept.items ≡ [] }
     {
         choices.begin();
-        Draft::new(alloc, mem::replace(choices, Choices::new(alloc)))
+        Draft {
+            ranks: Vec::new(alloc),
+            choices: mem::replace(choices, Choices::new(alloc)),
+        }
     }
 
     /// The choices that it leaves.
     pub(crate) fn into_choices(self) -> Choices
-        ensures { result ≡ self.entry.choices }
+        ensures { result ≡ self.choices }
     {
         let Draft { choices, .. } = self;
         choices
@@ -198,53 +168,17 @@ fn rank_all(
     Ok(())
 }
 
-/// An owner of attributes that rules made: where the last ones are equal, of these.
-fn share(alloc: Global, rest: Attrs, last: &Option<Changed<'_>>) -> Result<Arc<Attrs>, AllocError>
-    ensures { IfOk result (λ attrs. arc_value attrs ≡ rest) }
-{
-    if let Some(changed) = last {
-        if *changed.rest == rest {
-            return changed.rest.clone();
-        }
-    }
-    Ok(Arc::new(alloc, rest)?)
-}
-
-/// What these patterns leave of a route, which is kept for the next one. So routes that one UPDATE
-/// announced, which are decided one after the other, are changed once, and share one copy.
-fn strip_anew<'a>(
-    alloc: Global,
-    whole: &Arc<Attrs>,
-    strip: Strip<'a>,
-    last: &mut Option<Changed<'a>>,
-) -> Result<Arc<Attrs>, AllocError>
-    ensures { IfOk result (λ rest. arc_value rest ≡ stripped_of (taken_by strip.entry) (arc_value whole.now)) }
-{
-    let rest = share(alloc, stripped(alloc, whole, &strip)?, last)?;
-    *last = Some(Changed {
-        whole: whole.clone()?,
-        strip,
-        rest: rest.clone()?,
-    });
-    Ok(rest)
-}
-
-/// The route without what these patterns take out of it, if that is something.
+/// The route for the prefix of a number without what these patterns take out of it, if that is something.
 fn strip_from<'a>(
-    alloc: Global,
+    number: u32,
     whole: &'a Arc<Attrs>,
-    strip: Strip<'a>,
-    last: &mut Option<Changed<'a>>,
+    strip: &Strip<'_>,
+    stripped: &mut Stripped,
 ) -> Result<Passed<'a>, AllocError>
-    ensures { IfOk result (λ passed. attributes_passed passed ≡ stripped_of (taken_by strip.entry) (arc_value whole.now)) }
+    ensures { IfOk result (λ passed. attributes_passed passed ≡ stripped_of (taken_by strip.now) (arc_value whole.now)) }
 {
-    if let Some(changed) = last {
-        if let Some(rest) = changed.rest_of(whole, &strip) {
-            return Ok(Passed::Stripped(rest.clone()?));
-        }
-    }
     if strip.changes(whole) {
-        Ok(Passed::Stripped(strip_anew(alloc, whole, strip, last)?))
+        Ok(Passed::Stripped(stripped.rest_of(number, whole, strip)?))
     } else {
         Ok(Passed::Whole(whole))
     }
@@ -252,11 +186,11 @@ fn strip_from<'a>(
 
 /// The route as it is passed on.
 fn pass_on<'a>(
-    alloc: Global,
     sources: &Sources<'a>,
+    number: u32,
     prefix: &Prefix,
     holder: &Holder<'a>,
-    last: &mut Option<Changed<'a>>,
+    stripped: &mut Stripped,
 ) -> Result<Option<Passed<'a>>, AllocError>
     requires client { sources.now.client < length sources.now.config.now.clients }
     requires known { holder.now.client < length sources.now.config.now.clients }
@@ -272,7 +206,7 @@ fn pass_on<'a>(
         holder.note,
     ) {
         Fate::Drop => Ok(None),
-        Fate::Pass { strip, .. } => Ok(Some(strip_from(alloc, holder.attrs, strip, last)?)),
+        Fate::Pass { strip, .. } => Ok(Some(strip_from(number, holder.attrs, &strip, stripped)?)),
     }
 }
 
@@ -289,19 +223,19 @@ fn if_fits<'a>(speech: Speech, prefix: &Prefix, passed: Passed<'a>) -> Option<Pa
 
 /// The route as it is passed on, where it fits.
 fn pass_fitting<'a>(
-    alloc: Global,
     sources: &Sources<'a>,
     speech: Speech,
+    number: u32,
     prefix: &Prefix,
     holder: &Holder<'a>,
-    last: &mut Option<Changed<'a>>,
+    stripped: &mut Stripped,
 ) -> Result<Option<Passed<'a>>, AllocError>
     requires client { sources.now.client < length sources.now.config.now.clients }
     requires known { holder.now.client < length sources.now.config.now.clients }
     requires noted { holder.now.note ≡ note_of_import sources.now.config.now holder.now.client prefix.now (arc_value holder.now.attrs.now) }
     ensures { IfOk result (λ due. option_map attributes_passed due ≡ passed_fitting (held_by sources.now) sources.now.client speech prefix.now (holder.now.client, arc_value holder.now.attrs.now)) }
 {
-    match pass_on(alloc, sources, prefix, holder, last)? {
+    match pass_on(sources, number, prefix, holder, stripped)? {
         None => Ok(None),
         Some(passed) => Ok(if_fits(speech, prefix, passed)),
     }
@@ -309,12 +243,12 @@ fn pass_fitting<'a>(
 
 /// What is due where one client alone holds the prefix: nothing is compared.
 fn decide_alone<'a>(
-    alloc: Global,
     sources: &Sources<'a>,
     speech: Speech,
+    number: u32,
     prefix: &Prefix,
     holder: &Holder<'a>,
-    last: &mut Option<Changed<'a>>,
+    stripped: &mut Stripped,
 ) -> Result<Option<Passed<'a>>, AllocError>
     requires client { sources.now.client < length sources.now.config.now.clients }
     requires known { holder.now.client < length sources.now.config.now.clients }
@@ -324,7 +258,7 @@ fn decide_alone<'a>(
     if is_kept_back(sources, holder) {
         return Ok(None);
     }
-    pass_fitting(alloc, sources, speech, prefix, holder, last)
+    pass_fitting(sources, speech, number, prefix, holder, stripped)
 }
 
 /// Whose route is the best of the candidates among those of these holders, if there is one.
@@ -392,7 +326,7 @@ fn choose_once(
     number: u32,
     prefix: &Prefix,
     holders: Holders<'_>,
-    draft: &mut Draft<'_>,
+    draft: &mut Draft,
 ) -> Result<Option<usize>, AllocError>
     requires number { number_of sources.now.ins.now prefix.now ≡ Some number }
     requires holders { ListsHolders sources.now.ins.now prefix.now (map (λ h. h.0) holders) }
@@ -420,13 +354,12 @@ fn choose_once(
 /// What is due where these clients hold the prefix: the best of the candidates, whose route is looked up, and the
 /// client's export list asked of it.
 fn decide_among<'a>(
-    alloc: Global,
     sources: &Sources<'a>,
     speech: Speech,
     number: u32,
     prefix: &Prefix,
     holders: Holders<'a>,
-    draft: &mut Draft<'a>,
+    draft: &mut Draft,
 ) -> Result<Option<Passed<'a>>, AllocError>
     requires number { number_of sources.now.ins.now prefix.now ≡ Some number }
     requires holders { ListsHolders sources.now.ins.now prefix.now (map (λ h. h.0) holders) }
@@ -442,17 +375,23 @@ fn decide_among<'a>(
     let Some(holder) = sources.ins.noted_at(place, number) else {
         return Ok(None);
     };
-    pass_fitting(alloc, sources, speech, prefix, &holder, &mut draft.last)
+    pass_fitting(
+        sources,
+        speech,
+        number,
+        prefix,
+        &holder,
+        &mut draft.choices.stripped,
+    )
 }
 
 /// What is due to the client at a prefix: the best of the candidates, as it is passed on, where it fits.
 pub(crate) fn decide<'a>(
-    alloc: Global,
     sources: &Sources<'a>,
     speech: Speech,
     number: u32,
     prefix: &Prefix,
-    draft: &mut Draft<'a>,
+    draft: &mut Draft,
 ) -> Result<Option<Passed<'a>>, AllocError>
     requires number { number_of sources.now.ins.now prefix.now ≡ Some number }
     requires server { AreOfOneServer sources.now }
@@ -462,10 +401,17 @@ pub(crate) fn decide<'a>(
 {
     let mut holders = sources.ins.at_number(number);
     if holders.len() != 1 {
-        return decide_among(alloc, sources, speech, number, prefix, holders, draft);
+        return decide_among(sources, speech, number, prefix, holders, draft);
     }
     match holders.next() {
         None => Ok(None),
-        Some(holder) => decide_alone(alloc, sources, speech, prefix, &holder, &mut draft.last),
+        Some(holder) => decide_alone(
+            sources,
+            speech,
+            number,
+            prefix,
+            &holder,
+            &mut draft.choices.stripped,
+        ),
     }
 }

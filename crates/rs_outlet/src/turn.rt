@@ -51,14 +51,13 @@ fn is_due(row: Option<&Arc<Attrs>>, due: Option<&Passed<'_>>) -> bool
 
 /// Decides a prefix, and lists it where something else is due than before. It is refused where the row
 /// of the number has another prefix.
-fn decide_one<'a>(
-    alloc: Global,
-    sources: &Sources<'a>,
+fn decide_one(
+    sources: &Sources<'_>,
     speech: Speech,
     rows: &Rows,
     number: u32,
     prefix: Prefix,
-    draft: &mut Draft<'a>,
+    draft: &mut Draft,
     changes: &mut Vec<Change>,
 ) -> Result<(), AllocError>
     requires number { number_of sources.now.ins.now prefix ≡ Some number }
@@ -67,7 +66,7 @@ fn decide_one<'a>(
     ensures decided { OnOk result (IsDecidedAt sources.now.ins.now (due_to (held_by sources.now) sources.now.client speech) rows.now.rows.items number changes.old.items changes.new.items) }
     ensures choices { OnOk result (AreChoices (held_by sources.now) sources.now.ins.now draft.new.choices.kept.items) }
 {
-    let due = decide(alloc, sources, speech, number, &prefix, draft)?;
+    let due = decide(sources, speech, number, &prefix, draft)?;
     if is_due(rows.attrs(number), due.as_ref()) {
         return Ok(());
     }
@@ -105,15 +104,7 @@ fn decide_touched(
     let mut draft = Draft::from_choices(alloc, choices);
     let mut changes = Vec::with_capacity(alloc, touched.len())?;
     for (number, _) in touched {
-        decide_number(
-            alloc,
-            sources,
-            speech,
-            rows,
-            *number,
-            &mut draft,
-            &mut changes,
-        )?;
+        decide_number(sources, speech, rows, *number, &mut draft, &mut changes)?;
     }
     *choices = draft.into_choices();
     Ok(changes)
@@ -177,13 +168,12 @@ fn decide_stale(
 
 /// Decides the prefix of a number, if a client holds it or it stands in the Loc-RIB, and answers
 /// whether it did.
-fn decide_number<'a>(
-    alloc: Global,
-    sources: &Sources<'a>,
+fn decide_number(
+    sources: &Sources<'_>,
     speech: Speech,
     rows: &Rows,
     number: u32,
-    draft: &mut Draft<'a>,
+    draft: &mut Draft,
     changes: &mut Vec<Change>,
 ) -> Result<bool, AllocError>
     requires server { AreOfOneServer sources.now }
@@ -199,7 +189,7 @@ fn decide_number<'a>(
     if sources.ins.at_number(number).is_empty() && rows.get(number).is_none() {
         return Ok(false);
     }
-    decide_one(alloc, sources, speech, rows, number, prefix, draft, changes)?;
+    decide_one(sources, speech, rows, number, prefix, draft, changes)?;
     Ok(true)
 }
 
@@ -226,15 +216,7 @@ fn decide_all(
         return Err(AllocError);
     };
     for number in 0..numbers {
-        let decided = decide_number(
-            alloc,
-            sources,
-            speech,
-            rows,
-            number,
-            &mut draft,
-            &mut changes,
-        )?;
+        let decided = decide_number(sources, speech, rows, number, &mut draft, &mut changes)?;
         count += usize::from(decided);
     }
     *choices = draft.into_choices();

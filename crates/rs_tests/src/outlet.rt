@@ -1,11 +1,13 @@
 //! An outlet of a small exchange: touches up to their bound. `told` is how much clients are told by what they take,
-//! `refused` turns that memory was refused to, `asking` calls that take none. What clients are told by the rules, and what is
+//! `alike` what clients share to which the same rules apply, `refused` turns that memory was refused to, `asking` calls
+//! that take none. What clients are told by the rules, and what is
 //! told again, is in recorded sessions: `examples/sessions`, of which `rule_hides_a_path_from_one`, `route_too_long_for_one`,
 //! `community_stripped`, `strip_large_of_one`, `route_refresh` and `told_again_by_the_operator` show it.
 
 ghost use Rattle.rs_adjin.specs.AdjIns.{AreNoted};
 ghost use Rattle.rs_policy.specs.Noted.{note_of_import};
 
+mod alike;
 mod asking;
 mod refused;
 mod told;
@@ -74,15 +76,20 @@ struct Exchange {
 }
 
 impl Exchange {
-    /// Two members, of which the sender announces so many prefixes, by two sets of attributes.
-    fn with_routes(rt: &impl Abort, alloc: Global, count: u32) -> Exchange {
-        let config = Config::read(alloc, TWO_MEMBERS).expect(rt, "a configuration");
+    /// The members of a configuration, none of which has announced anything.
+    fn of(rt: &impl Abort, alloc: Global, text: &str) -> Exchange {
+        let config = Config::read(alloc, text).expect(rt, "a configuration");
         let tables = AdjIns::new(alloc, config.clients()).expect(rt, "tables");
-        let mut made = Exchange {
+        Exchange {
             alloc,
             config,
             tables,
-        };
+        }
+    }
+
+    /// Two members, of which the sender announces so many prefixes, by two sets of attributes.
+    fn with_routes(rt: &impl Abort, alloc: Global, count: u32) -> Exchange {
+        let mut made = Exchange::of(rt, alloc, TWO_MEMBERS);
         let sets = [attrs(rt, alloc, 11), attrs(rt, alloc, 12)];
         for n in 0..count {
             made.announce(rt, n, &sets[n as usize % 2]);

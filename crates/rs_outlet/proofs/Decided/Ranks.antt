@@ -88,19 +88,9 @@ distinct (r ∷ rs) h (suc i) (suc j) d up below = distinct rs h.1 i j d (omega 
 pub distinct_places : (t : Held) (c : ℕ) (p : Prefix) (hs : List (ℕ × List Attribute)) → AllPairs (λ g h. g.0 < h.0) hs → HasDistinctPlaces (ranks_among t c p hs)
 distinct_places t c p hs up = distinct _ (apart_ranks t c p hs (rising hs up))
 
-each_got : (P : Rank → Type 0) (xs : List Rank) (k : ℕ) (r : Rank) → AllByRecursion P xs → slice_get xs k ≡ Some r → P r
-each_got P [] k r h e = absurd (cc e)
-each_got P (x ∷ xs) zero r h e = subst P (ap (λ o. unwrap_or o r) e) h.0
-each_got P (x ∷ xs) (suc k) r h e = each_got P xs k r h.1 e
-
 -- the rank that was read stands among the ranks
 pub ranked_at : (ranks again : List Rank) (k : ℕ) (r : Rank) → ranks ≡ again → k < length again → r ≡ slice_index_or again k r → slice_get ranks k ≡ Some r
 ranked_at ranks again k r same below is = ap (λ xs. slice_get xs k) same ∙ slice_get_read again _ k r refl below is
-
--- the place of a candidate is of a client that there is
-pub known_place : (n : ℕ) (t : Held) (c : ℕ) (p : Prefix) (hs : List (ℕ × List Attribute)) (ranks : List Rank) (k : ℕ) (r : Rank) → All (λ h. h.0 < n) hs → ranks ≡ ranks_among t c p hs → slice_get ranks k ≡ Some r → r.place < n
-known_place n t c p hs ranks k r known is got =
-    each_got (λ r. r.place < n) (ranks_among t c p hs) k r (each_place (λ k. k < n) t c p hs (recursion_from_All (λ h. h.0 < n) hs known)) (ap (λ xs. slice_get xs k) (sym is) ∙ got)
 
 -- ---- what is due, by the best of the ranks
 
@@ -116,10 +106,6 @@ due_none t c speech p hs ranks all is none = sym (by_ranks t c speech p hs ranks
 
 abbrev pub passed_from : Held → ℕ → Speech → Prefix → ℕ → Option (List Attribute) → Option (List Attribute)
 passed_from t c speech p from held = option_and_then (if_fits speech p) (option_and_then (λ m. passed_on m (verdict t.settings from c p m)) held)
-
-pub due_some : (t : Held) (c : ℕ) (speech : Speech) (p : Prefix) (hs : List (ℕ × List Attribute)) (ranks : List Rank) (r : Rank) (m : Option (List Attribute)) → hs ≡ holders_at t p → ranks ≡ ranks_among t c p hs → best_of ranks ≡ Some r → t.held r.place p ≡ m → passed_from t c speech p r.place m ≡ due_to t c speech p
-due_some t c speech p hs ranks r m all is best held =
-    ap (passed_from t c speech p r.place) (sym held) ∙ sym (by_ranks t c speech p hs ranks all is ∙ ap (from_best t c speech p) best)
 
 pub past : (xs : List Rank) (k : ℕ) → length xs ≤ k → slice_get xs k ≡ None
 past [] k h = refl

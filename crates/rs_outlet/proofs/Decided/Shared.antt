@@ -1,5 +1,5 @@
 -- Clients without a route for a prefix, for whom the rules judge alike, have one choice there.
-use Rattle.std.proofs.Common.{◌≡◌, ◌≢◌, ◌<◌, ◌==◌, ◌||◌, ℕ, Bool, true, false, cond, Option, None, Some, List, [], ◌∷◌, ◌++◌, inl, inr, option_map, refl, subst, sym, ap, ◌∙◌, arith}
+use Rattle.std.proofs.Common.{◌≡◌, ◌≢◌, ◌<◌, ◌==◌, ◌||◌, ℕ, false, cond, Option, None, Some, List, [], ◌∷◌, ◌++◌, inl, inr, option_map, refl, subst, sym, ap, ◌∙◌, arith}
 use Rattle.std.specs.Prelude.{Contains, option_and_then, unwrap_or}
 use Rattle.std.specs.List.{All, AllByRecursion, cons_option}
 use Rattle.std.proofs.lemmas.Bool.Decides.{nat_tests}

@@ -245,7 +245,7 @@ fn put_keyed_in_order(exact: bool, rows: &Rows, slots: &[Wait], order: &mut Vec<
     if exact {
         order.sort_unstable_by(|a, b| compare(rows, slots, a, b));
     } else {
-        order.sort_unstable_by_key(|entry| (entry.key, entry.slot));
+        order.sort_unstable_by_key(|entry| u64::from(entry.key) << 32 | u64::from(entry.slot));
     }
 }
 

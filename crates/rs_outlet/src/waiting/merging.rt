@@ -19,9 +19,8 @@ use std::alloc::Global;
 /// slot that is added costs a share of the merge that falls as the root of what waits.
 const LATE: usize = 1000;
 
-/// Where more slots than these were there, and more than four times those that are added, and none of them
-/// waits, their memory is given back.
-const MANY: usize = 4096;
+/// Where more slots than these were there, and none of them waits, their memory is given back.
+const MANY: usize = 16_384;
 
 /// Empties a vector, and puts fresh room of the same size in its place, which takes no memory before it
 /// is written. Where that is refused, the old room stays.
@@ -42,7 +41,7 @@ impl Waits {
         requires fresh { AreFresh self.old.slots.items more.items }
         ensures slots { (q : Prefix) → open_at q self.new.slots.items ≡ open_at q (self.old.slots.items ++ more.items) }
         ensures withdrawn { withdrawn_count self.new.slots.items ≤ withdrawn_count self.old.slots.items + withdrawn_count more.items }
-        ensures capacity { vec_capacity self.new.slots ≡ vec_capacity self.old.slots }
+        ensures capacity { vec_capacity self.old.slots ≤ vec_capacity self.new.slots }
         ensures chained { (rows : List (Option Row)) → AreChained rows (take self.old.sorted self.old.slots.items) self.old.chains.items → AreChained rows (take self.new.sorted self.new.slots.items) self.new.chains.items }
     {
         self.make_room(more.len());
@@ -61,14 +60,12 @@ impl Waits {
         if !self.is_crowded(more) {
             return;
         }
-        let most = self.most.max(self.slots.len());
+        self.most = self.most.max(self.slots.len());
         self.merge(Some(self.alloc));
-        if most > MANY.max(more.saturating_mul(4)) {
-            self.give_back();
-        }
     }
 
-    /// Drops the slots once none of them waits, so that nothing goes over them again. Their memory stays.
+    /// Drops the slots once none of them waits, so that nothing goes over them again. Where they were many, their
+    /// memory is given back.
     pub(crate) fn shed(&mut self)
         ensures slots { (q : Prefix) → open_at q self.new.slots.items ≡ open_at q self.old.slots.items }
         ensures withdrawn { withdrawn_count self.new.slots.items ≡ withdrawn_count self.old.slots.items }
@@ -80,6 +77,9 @@ impl Waits {
         }
         self.most = self.most.max(self.slots.len());
         self.merge(None);
+        if self.most > MANY {
+            self.give_back();
+        }
     }
 
     /// Gives back the memory that slots took, where there are none. There is still room for as many.
@@ -109,13 +109,25 @@ impl Waits {
         self.waiting == 0 || self.sorted.saturating_mul(LATE) < late.saturating_mul(late)
     }
 
+    /// How much room is made for so many slots that are to be added: where they are many and there are no others,
+    /// as much as there is for these, so that they can take their place.
+    pub(crate) fn room_for(&self, more: usize) -> usize
+        ensures { more ≤ result }
+    {
+        if self.slots.is_empty() && more > MANY {
+            more.max(self.slots.capacity())
+        } else {
+            more
+        }
+    }
+
     /// Adds slots to the late part, for which there is room. The first part and its chains stay.
     fn add_late(&mut self, more: Vec<Wait>)
         requires room { vec_len self.old.slots + vec_len more ≤ vec_capacity self.old.slots }
         requires fresh { AreFresh self.old.slots.items more.items }
         ensures slots { (q : Prefix) → open_at q self.new.slots.items ≡ open_at q (self.old.slots.items ++ more.items) }
         ensures withdrawn { withdrawn_count self.new.slots.items ≤ withdrawn_count self.old.slots.items + withdrawn_count more.items }
-        ensures capacity { vec_capacity self.new.slots ≡ vec_capacity self.old.slots }
+        ensures capacity { vec_capacity self.old.slots ≤ vec_capacity self.new.slots }
         ensures chained { (rows : List (Option Row)) → AreChained rows (take self.old.sorted self.old.slots.items) self.old.chains.items → AreChained rows (take self.new.sorted self.new.slots.items) self.new.chains.items }
     {
         let count = more.len();

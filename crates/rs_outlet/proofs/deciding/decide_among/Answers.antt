@@ -2,7 +2,6 @@ use Rattle.std.proofs.Common.{◌≡◌, ◌<◌, IfOk, Some, None, sym, ap, ◌
 use Rattle.std.specs.Arc.{arc_value}
 use Rattle.rs_adjin.specs.AdjIns.{ListsHolders}
 use Rattle.rs_policy.specs.Noted.{note_of_import}
-use Rattle.rs_outlet.specs.Decided.Choices.{chosen}
 use Rattle.rs_outlet.specs.Decided.HeldBy.{held_by}
 use Rattle.rs_outlet.specs.Decided.Passing.{attributes_passed, passed_fitting}
 use Rattle.rs_outlet.proofs.Decided.Ranks.{sent}
