@@ -9,6 +9,7 @@ pub mod TouchedNumbers
 pub mod TouchedList
 pub mod Ranks
 pub mod Rests
+pub mod Memo
 pub mod OthersAlone
 pub mod Shared
 pub mod Counting

@@ -14,10 +14,12 @@ ghost use Rattle.rs_outlet.specs.Decided.HeldBy.{held_by, AreOfOneServer};
 ghost use Rattle.rs_octets.specs.Prefixes.{Prefix};
 ghost use Rattle.rs_attrs.specs.Meaning.{Attribute};
 ghost use Rattle.rs_outlet.specs.Decided.Choices.{AreChoices, chosen};
+ghost use Rattle.rs_outlet.specs.Decided.Memo.{IsMemo};
 ghost use Rattle.rs_outlet.specs.Decided.Passing.{attributes_passed, due_alone, is_kept_back, passed_fitting};
 
 use crate::answers::Speech;
 use crate::choices::{Choice, Choices};
+use crate::memo::{Judged, judge_once};
 use crate::stripped::Stripped;
 use rs_adjin::{AdjIns, Holder, Holders};
 use rs_attrs::{Attrs, Strip};
@@ -37,29 +39,33 @@ pub(crate) struct Sources<'a> {
     pub(crate) client: usize,
 }
 
-/// What one decision of a turn leaves to the next: room for ranks, and choices that serve other clients too.
+/// What one decision of a turn leaves to the next: room for ranks, what became of the last route, and choices that serve
+/// other clients too.
 #[derive(Drop)]
-pub(crate) struct Draft {
+pub(crate) struct Draft<'a> {
     ranks: Vec<Rank>,
+    pub(crate) memo: Option<Judged<'a>>,
     pub(crate) choices: Choices,
 }
 
-impl Draft {
+impl<'a> Draft<'a> {
     /// Begins with the choices that were kept, which are gone where they were.
-    pub(crate) fn from_choices(alloc: Global, choices: &mut Choices) -> Draft
+    pub(crate) fn from_choices(alloc: Global, choices: &mut Choices) -> Draft<'a>
         ensures made { result.choices.kept.items ≡ choices.old.kept.items }
+        ensures memo { result.memo ≡ None }
         ensures none { choices.new.kept.items ≡ [] }
     {
         choices.begin();
         Draft {
             ranks: Vec::new(alloc),
+            memo: None,
             choices: mem::replace(choices, Choices::new(alloc)),
         }
     }
 
     /// The choices that it leaves.
     pub(crate) fn into_choices(self) -> Choices
-        ensures { result ≡ self.choices }
+        ensures { result ≡ self.entry.choices }
     {
         let Draft { choices, .. } = self;
         choices
@@ -190,21 +196,17 @@ fn pass_on<'a>(
     number: u32,
     prefix: &Prefix,
     holder: &Holder<'a>,
+    memo: &mut Option<Judged<'a>>,
     stripped: &mut Stripped,
 ) -> Result<Option<Passed<'a>>, AllocError>
     requires client { sources.now.client < length sources.now.config.now.clients }
     requires known { holder.now.client < length sources.now.config.now.clients }
     requires noted { holder.now.note ≡ note_of_import sources.now.config.now holder.now.client prefix.now (arc_value holder.now.attrs.now) }
-    ensures { IfOk result (λ passed. option_map attributes_passed passed ≡ passed_on (arc_value holder.now.attrs.now) (verdict sources.now.config.now holder.now.client sources.now.client prefix.now (arc_value holder.now.attrs.now))) }
+    requires memo { IsMemo sources.now.config.now sources.now.client memo.old }
+    ensures passed { IfOk result (λ passed. option_map attributes_passed passed ≡ passed_on (arc_value holder.now.attrs.now) (verdict sources.now.config.now holder.now.client sources.now.client prefix.now (arc_value holder.now.attrs.now))) }
+    ensures memo { IsMemo sources.now.config.now sources.now.client memo.new }
 {
-    match judge_noted(
-        sources.config,
-        holder.client,
-        sources.client,
-        prefix,
-        holder.attrs,
-        holder.note,
-    ) {
+    match judge_once(sources.config, sources.client, prefix, holder, memo) {
         Fate::Drop => Ok(None),
         Fate::Pass { strip, .. } => Ok(Some(strip_from(number, holder.attrs, &strip, stripped)?)),
     }
@@ -228,14 +230,17 @@ fn pass_fitting<'a>(
     number: u32,
     prefix: &Prefix,
     holder: &Holder<'a>,
+    memo: &mut Option<Judged<'a>>,
     stripped: &mut Stripped,
 ) -> Result<Option<Passed<'a>>, AllocError>
     requires client { sources.now.client < length sources.now.config.now.clients }
     requires known { holder.now.client < length sources.now.config.now.clients }
     requires noted { holder.now.note ≡ note_of_import sources.now.config.now holder.now.client prefix.now (arc_value holder.now.attrs.now) }
-    ensures { IfOk result (λ due. option_map attributes_passed due ≡ passed_fitting (held_by sources.now) sources.now.client speech prefix.now (holder.now.client, arc_value holder.now.attrs.now)) }
+    requires memo { IsMemo sources.now.config.now sources.now.client memo.old }
+    ensures due { IfOk result (λ due. option_map attributes_passed due ≡ passed_fitting (held_by sources.now) sources.now.client speech prefix.now (holder.now.client, arc_value holder.now.attrs.now)) }
+    ensures memo { IsMemo sources.now.config.now sources.now.client memo.new }
 {
-    match pass_on(sources, number, prefix, holder, stripped)? {
+    match pass_on(sources, number, prefix, holder, memo, stripped)? {
         None => Ok(None),
         Some(passed) => Ok(if_fits(speech, prefix, passed)),
     }
@@ -248,17 +253,20 @@ fn decide_alone<'a>(
     number: u32,
     prefix: &Prefix,
     holder: &Holder<'a>,
+    memo: &mut Option<Judged<'a>>,
     stripped: &mut Stripped,
 ) -> Result<Option<Passed<'a>>, AllocError>
     requires client { sources.now.client < length sources.now.config.now.clients }
     requires known { holder.now.client < length sources.now.config.now.clients }
     requires noted { holder.now.note ≡ note_of_import sources.now.config.now holder.now.client prefix.now (arc_value holder.now.attrs.now) }
-    ensures { IfOk result (λ due. option_map attributes_passed due ≡ due_alone (held_by sources.now) sources.now.client speech prefix.now (holder.now.client, arc_value holder.now.attrs.now)) }
+    requires memo { IsMemo sources.now.config.now sources.now.client memo.old }
+    ensures due { IfOk result (λ due. option_map attributes_passed due ≡ due_alone (held_by sources.now) sources.now.client speech prefix.now (holder.now.client, arc_value holder.now.attrs.now)) }
+    ensures memo { IsMemo sources.now.config.now sources.now.client memo.new }
 {
     if is_kept_back(sources, holder) {
         return Ok(None);
     }
-    pass_fitting(sources, speech, number, prefix, holder, stripped)
+    pass_fitting(sources, speech, number, prefix, holder, memo, stripped)
 }
 
 /// Whose route is the best of the candidates among those of these holders, if there is one.
@@ -326,7 +334,7 @@ fn choose_once(
     number: u32,
     prefix: &Prefix,
     holders: Holders<'_>,
-    draft: &mut Draft,
+    draft: &mut Draft<'_>,
 ) -> Result<Option<usize>, AllocError>
     requires number { number_of sources.now.ins.now prefix.now ≡ Some number }
     requires holders { ListsHolders sources.now.ins.now prefix.now (map (λ h. h.0) holders) }
@@ -335,6 +343,7 @@ fn choose_once(
     requires choices { AreChoices (held_by sources.now) sources.now.ins.now draft.old.choices.kept.items }
     ensures chosen { IfOk result (λ place. place ≡ chosen (held_by sources.now) sources.now.client prefix.now) }
     ensures choices { OnOk result (AreChoices (held_by sources.now) sources.now.ins.now draft.new.choices.kept.items) }
+    ensures memo { draft.new.memo ≡ draft.old.memo }
 {
     if !is_shared(sources, number) {
         return choose(sources, prefix, holders, &mut draft.ranks);
@@ -359,15 +368,17 @@ fn decide_among<'a>(
     number: u32,
     prefix: &Prefix,
     holders: Holders<'a>,
-    draft: &mut Draft,
+    draft: &mut Draft<'a>,
 ) -> Result<Option<Passed<'a>>, AllocError>
     requires number { number_of sources.now.ins.now prefix.now ≡ Some number }
     requires holders { ListsHolders sources.now.ins.now prefix.now (map (λ h. h.0) holders) }
     requires server { AreOfOneServer sources.now }
     requires notes { All (λ h. h.1 ≡ note_of_import sources.now.config.now h.0.0 prefix.now h.0.1) holders }
     requires choices { AreChoices (held_by sources.now) sources.now.ins.now draft.old.choices.kept.items }
+    requires memo { IsMemo sources.now.config.now sources.now.client draft.old.memo }
     ensures due { IfOk result (λ due. option_map attributes_passed due ≡ due_to (held_by sources.now) sources.now.client speech prefix.now) }
     ensures choices { OnOk result (AreChoices (held_by sources.now) sources.now.ins.now draft.new.choices.kept.items) }
+    ensures memo { OnOk result (IsMemo sources.now.config.now sources.now.client draft.new.memo) }
 {
     let Some(place) = choose_once(sources, number, prefix, holders, draft)? else {
         return Ok(None);
@@ -381,6 +392,7 @@ fn decide_among<'a>(
         number,
         prefix,
         &holder,
+        &mut draft.memo,
         &mut draft.choices.stripped,
     )
 }
@@ -391,13 +403,15 @@ pub(crate) fn decide<'a>(
     speech: Speech,
     number: u32,
     prefix: &Prefix,
-    draft: &mut Draft,
+    draft: &mut Draft<'a>,
 ) -> Result<Option<Passed<'a>>, AllocError>
     requires number { number_of sources.now.ins.now prefix.now ≡ Some number }
     requires server { AreOfOneServer sources.now }
     requires choices { AreChoices (held_by sources.now) sources.now.ins.now draft.old.choices.kept.items }
+    requires memo { IsMemo sources.now.config.now sources.now.client draft.old.memo }
     ensures due { IfOk result (λ due. option_map attributes_passed due ≡ due_to (held_by sources.now) sources.now.client speech prefix.now) }
     ensures choices { OnOk result (AreChoices (held_by sources.now) sources.now.ins.now draft.new.choices.kept.items) }
+    ensures memo { OnOk result (IsMemo sources.now.config.now sources.now.client draft.new.memo) }
 {
     let mut holders = sources.ins.at_number(number);
     if holders.len() != 1 {
@@ -411,6 +425,7 @@ pub(crate) fn decide<'a>(
             number,
             prefix,
             &holder,
+            &mut draft.memo,
             &mut draft.choices.stripped,
         ),
     }

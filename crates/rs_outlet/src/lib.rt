@@ -8,8 +8,10 @@
 //! - `outlet` has the calls that change an `Outlet`, `queries` those that ask it; `answers` is what it
 //!   knows of its client, and what a turn answers; `sizes` says how much room a message has.
 //! - `touched` is what the next turn decides; `turn` decides it, by `deciding`, which says what is
-//!   due at one prefix; `choices` and `stripped` are what it leaves to the outlets that turn next.
-//!   `changes` puts that into `rows`, the Loc-RIB by number, which keeps each in a `place` of a `table`, and into `waiting`, what is to be sent: slots in two `parts`, of which `merging` makes
+//!   due at one prefix; `memo` is what it leaves to the next prefix, `choices` and `stripped` to the
+//!   outlets that turn next.
+//! - `changes` puts that into `rows`, the Loc-RIB by number, which keeps each in a `place` of a
+//!   `table`, and into `waiting`, what is to be sent: slots in two `parts`, of which `merging` makes
 //!   one. `marking` makes all that was told wait again.
 //! - `choosing` says which slots the next UPDATE is about, going along the `chains` of slots with the
 //!   same attributes; `sending` and `fill` begin the next message.
@@ -23,6 +25,7 @@ mod choices;
 mod deciding;
 mod fill;
 pub mod laws;
+mod memo;
 mod noting;
 mod outlet;
 mod place;

@@ -16,6 +16,7 @@ ghost use Rattle.rs_outlet.specs.Decided.HeldBy.{held_by, AreOfOneServer};
 ghost use Rattle.rs_outlet.specs.Inside.{AreDecided, AreFresh, IsDecidedAt};
 ghost use Rattle.rs_outlet.specs.Decided.Touching.{is_number_touched, is_numbered_in, touched_of};
 ghost use Rattle.rs_outlet.specs.Decided.Choices.{AreChoices};
+ghost use Rattle.rs_outlet.specs.Decided.Memo.{IsMemo};
 ghost use Rattle.rs_outlet.specs.Decided.Passing.{attributes_passed};
 
 use crate::answers::{Last, Speech, Turned};
@@ -51,20 +52,22 @@ fn is_due(row: Option<&Arc<Attrs>>, due: Option<&Passed<'_>>) -> bool
 
 /// Decides a prefix, and lists it where something else is due than before. It is refused where the row
 /// of the number has another prefix.
-fn decide_one(
-    sources: &Sources<'_>,
+fn decide_one<'a>(
+    sources: &Sources<'a>,
     speech: Speech,
     rows: &Rows,
     number: u32,
     prefix: Prefix,
-    draft: &mut Draft,
+    draft: &mut Draft<'a>,
     changes: &mut Vec<Change>,
 ) -> Result<(), AllocError>
     requires number { number_of sources.now.ins.now prefix ≡ Some number }
     requires server { AreOfOneServer sources.now }
     requires choices { AreChoices (held_by sources.now) sources.now.ins.now draft.old.choices.kept.items }
+    requires memo { IsMemo sources.now.config.now sources.now.client draft.old.memo }
     ensures decided { OnOk result (IsDecidedAt sources.now.ins.now (due_to (held_by sources.now) sources.now.client speech) rows.now.rows.items number changes.old.items changes.new.items) }
     ensures choices { OnOk result (AreChoices (held_by sources.now) sources.now.ins.now draft.new.choices.kept.items) }
+    ensures memo { OnOk result (IsMemo sources.now.config.now sources.now.client draft.new.memo) }
 {
     let due = decide(sources, speech, number, &prefix, draft)?;
     if is_due(rows.attrs(number), due.as_ref()) {
@@ -168,20 +171,22 @@ fn decide_stale(
 
 /// Decides the prefix of a number, if a client holds it or it stands in the Loc-RIB, and answers
 /// whether it did.
-fn decide_number(
-    sources: &Sources<'_>,
+fn decide_number<'a>(
+    sources: &Sources<'a>,
     speech: Speech,
     rows: &Rows,
     number: u32,
-    draft: &mut Draft,
+    draft: &mut Draft<'a>,
     changes: &mut Vec<Change>,
 ) -> Result<bool, AllocError>
     requires server { AreOfOneServer sources.now }
     requires choices { AreChoices (held_by sources.now) sources.now.ins.now draft.old.choices.kept.items }
+    requires memo { IsMemo sources.now.config.now sources.now.client draft.old.memo }
     ensures choices { OnOk result (AreChoices (held_by sources.now) sources.now.ins.now draft.new.choices.kept.items) }
     ensures changes { OnOk result (IsDecidedAt sources.now.ins.now (due_to (held_by sources.now) sources.now.client speech) rows.now.rows.items number changes.old.items changes.new.items) }
     ensures free { prefix_of sources.now.ins.now number ≡ None → IfOk result (λ decided. decided ≡ false) }
     ensures standing { (p : Prefix) → number_of sources.now.ins.now p ≡ Some number → IfOk result (λ decided. decided ≡ is_standing rows.now.rows.items (any_holds (held_by sources.now)) p number) }
+    ensures memo { OnOk result (IsMemo sources.now.config.now sources.now.client draft.new.memo) }
 {
     let Some(prefix) = sources.ins.prefix(number) else {
         return Ok(false);

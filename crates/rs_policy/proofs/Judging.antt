@@ -5,3 +5,4 @@ pub mod Written
 pub mod WithoutRules
 pub mod Placed
 pub mod Noted
+pub mod Prefixes

@@ -1,4 +1,5 @@
 pub mod Accepted
+pub mod Asking
 pub mod Configuration
 pub mod Documents
 pub mod FaultTexts

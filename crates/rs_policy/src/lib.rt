@@ -25,7 +25,7 @@ mod rules;
 pub use config::Config;
 pub use faults::{ConfigFault, Key, List, Place, RulesFault, Table};
 pub use keys::{is_known, known_keys};
-pub use rules::alike::judges_alike;
+pub use rules::alike::{judges_alike, judges_prefixes_alike};
 pub use rules::noting::{import_note, judge_noted};
 pub use rules::reasons::{Decider, Reasons, reasons_for};
 pub use rules::verdict::{Fate, Verdict, judge};

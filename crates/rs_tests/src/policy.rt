@@ -3,6 +3,7 @@
 //! What a program shows of it is played: the faults of texts by `tools/plays/faults.py`, which routes rules match and what
 //! they take away by `tools/plays/matching.py`.
 
+mod alike;
 mod examples;
 mod faults;
 mod routes;

@@ -110,12 +110,13 @@ impl Waits {
     }
 
     /// How much room is made for so many slots that are to be added: where they are many and there are no others,
-    /// as much as there is for these, so that they can take their place.
+    /// as much as there is for these, if that is no more than twice as much, so that they can take their place.
     pub(crate) fn room_for(&self, more: usize) -> usize
         ensures { more ≤ result }
     {
-        if self.slots.is_empty() && more > MANY {
-            more.max(self.slots.capacity())
+        let room = self.slots.capacity();
+        if self.slots.is_empty() && more > MANY && room / 2 <= more {
+            more.max(room)
         } else {
             more
         }

@@ -1,11 +1,17 @@
-//! Clients to which the same becomes of each route.
+//! Clients to which the same becomes of each route, and routes of which the same becomes.
 
 ghost use Rattle.std.specs.Prelude.{◌≡◌, ◌<◌, ℕ, List, length, IsTrue};
+ghost use Rattle.std.specs.List.{list_any};
+ghost use Rattle.rs_policy.specs.Asking.{asks_prefix};
+ghost use Rattle.rs_policy.specs.Configuration.{rules_in};
+ghost use Rattle.rs_policy.specs.Noted.{note_of_import};
 ghost use Rattle.rs_octets.specs.Prefixes.{Prefix};
 ghost use Rattle.rs_attrs.specs.Meaning.{Attribute};
 ghost use Rattle.rs_policy.specs.Verdicts.{verdict};
 
 use crate::config::Config;
+use crate::config::shared_rules::SharedRules;
+use crate::rules::{Item, Rule};
 
 /// Whether the rules judge each route alike on its way to both clients: neither has export rules. Import lists ask for no
 /// receiver. It takes no memory.
@@ -19,4 +25,43 @@ pub fn judges_alike(config: &Config, one: usize, other: usize) -> bool
         return false;
     }
     config.export(other).is_empty()
+}
+
+/// Whether a rule asks for the prefix of a route.
+fn asks_prefix(rule: &Rule) -> bool
+    ensures { result ≡ asks_prefix rule.now }
+{
+    rule.range.is_some() || rule.tests.prefix_in.is_some()
+}
+
+/// Whether a rule at a place of a client's list does.
+fn asks_prefix_at(shared: &[SharedRules], item: &Item) -> bool
+    ensures { result ≡ list_any asks_prefix (rules_in shared.now item.now) }
+{
+    match item {
+        Item::Own(rule) => asks_prefix(rule),
+        Item::Use(place) => match shared.get(*place) {
+            None => false,
+            Some(used) => used.rules.iter().any(|rule| asks_prefix(rule)),
+        },
+    }
+}
+
+/// Whether a rule of a client's list does.
+fn asks_prefix_among(shared: &[SharedRules], items: &[Item]) -> bool
+    ensures { result ≡ list_any (λ item. list_any asks_prefix (rules_in shared.now item)) items.now }
+{
+    items.iter().any(|item| asks_prefix_at(shared, item))
+}
+
+/// Whether the rules judge routes with the same attributes and note (`import_note`) alike on their way to a client, whatever
+/// their prefixes are: none of its export rules asks for the prefix. It takes no memory.
+pub fn judges_prefixes_alike(config: &Config, to: usize) -> bool
+    requires { to < length config.now.clients }
+    ensures { IsTrue result → (from : ℕ) (p q : Prefix) (m : List Attribute) → from < length config.now.clients → note_of_import config.now from p m ≡ note_of_import config.now from q m → verdict config.now from to p m ≡ verdict config.now from to q m }
+{
+    config.is_read();
+    let exports = config.export(to);
+    let (items, shared) = exports.parts();
+    !asks_prefix_among(shared, items)
 }

@@ -1,8 +1,8 @@
-//! What a strip takes away of the communities of a route.
+//! What a strip takes away of the communities of a route, and which communities a route has.
 
 use super::{ROUTE, attrs_of, route_with};
 use crate::common::is_of;
-use rs_attrs::{Attrs, CommunityPattern, LargeCommunityPattern, Strip, stripped};
+use rs_attrs::{Attrs, CommunityPattern, LargeCommunityPattern, OwnedStrip, Strip, stripped};
 use std::alloc::Global;
 use std::process::Abort;
 
@@ -183,6 +183,62 @@ fn strips_communities(rt: HostRuntime) {
         let left = route_with(&rt, rt.alloc(), left);
         leaves(&rt, rt.alloc(), strip, &sent, &left);
         leaves(&rt, rt.alloc(), strip, &route, &route);
+    }
+}
+
+/// A strip that owns its patterns leaves the same.
+#[test]
+fn strips_by_patterns_of_its_own(rt: HostRuntime) {
+    let sent = route_with(&rt, rt.alloc(), SENT);
+    for (strip, left) in &STRIPPED {
+        let left = route_with(&rt, rt.alloc(), left);
+        let owned = OwnedStrip::of(rt.alloc(), strip).expect(&rt, "a strip");
+        leaves(&rt, rt.alloc(), &owned.lent(), &sent, &left);
+    }
+}
+
+/// Patterns, and whether a community that was sent is like each.
+static ASKED: [(CommunityPattern, bool); 4] = [
+    (C_1, true),
+    (C_2, true),
+    (C_3, false),
+    (C_ANY, true),
+];
+
+/// The same of large communities.
+static ASKED_LARGE: [(LargeCommunityPattern, bool); 3] = [
+    (L_1_2, true),
+    (L_1_ANY, true),
+    (L_2_ANY, false),
+];
+
+/// A route without any communities has none like a pattern.
+#[test]
+fn has_communities_like_patterns(rt: HostRuntime) {
+    let sent = route_with(&rt, rt.alloc(), SENT);
+    let route = attrs_of(&rt, rt.alloc(), &ROUTE);
+    for (pattern, want) in &ASKED {
+        is_of(&rt, sent.tags().has_community_like(pattern), *want, pattern);
+        is_of(
+            &rt,
+            route.tags().has_community_like(pattern),
+            false,
+            pattern,
+        );
+    }
+    for (pattern, want) in &ASKED_LARGE {
+        is_of(
+            &rt,
+            sent.tags().has_large_community_like(pattern),
+            *want,
+            pattern,
+        );
+        is_of(
+            &rt,
+            route.tags().has_large_community_like(pattern),
+            false,
+            pattern,
+        );
     }
 }
 

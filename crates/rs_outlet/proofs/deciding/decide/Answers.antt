@@ -26,4 +26,4 @@ returns-in-Some-clause-due c =
     let one : c.at_number-holders.result ≡ (h, c.in-Some.holder.note) ∷ [] = one_alone c.at_number-holders.result (h, c.in-Some.holder.note) c.next.new.self c.len.result c.in-Some.ensures.steps c.len.ensures c.if-len-ne1.false in
     let listed : ListsHolders ins p (h ∷ []) = subst (ListsHolders ins p) (ap sent one) (c.at_number-holders.ensures.holders p c.requires.number) in
     subst (λ m. IfOk c.decide_alone.result (λ due. option_map attributes_passed due ≡ m))
-    (alone_is_due (held_by c.args.sources.now) c.args.sources.now.client c.args.speech p h listed.all (held_alone ins p h listed.each)) c.decide_alone.ensures
+    (alone_is_due (held_by c.args.sources.now) c.args.sources.now.client c.args.speech p h listed.all (held_alone ins p h listed.each)) c.decide_alone.ensures.due

@@ -35,4 +35,4 @@ returns-clause-due c =
     (ap (λ d. passed_fitting (held_by c.args.sources.now) c.args.sources.now.client c.args.speech c.args.prefix.now (d, m)) c.in-Some-noted_at.ensures.client
     ∙ due_by_choice (held_by c.args.sources.now) c.args.sources.now.client c.args.speech c.args.prefix.now c.in-Some.place (Some m) (sym c.in_ok-place.ensures.chosen ∙ c.in-Some.is)
     (sym (c.in-Some-noted_at.ensures.route c.args.prefix.now c.requires.number)))
-    c.pass_fitting.ensures
+    c.pass_fitting.ensures.due

@@ -6,6 +6,7 @@ use Rattle.rs_adjin.specs.AdjIns.{number_of}
 use Rattle.std.proofs.lemmas.Bool.Decides.{nat_tests}
 use Rattle.rs_outlet.specs.Decided.Due.{any_holds, due_to}
 use Rattle.rs_outlet.specs.Decided.HeldBy.{held_by}
+use Rattle.rs_outlet.proofs.Decided.Memo.{no_memo}
 use Rattle.rs_outlet.proofs.Decided.Counting.{none_counted, next_counted, all_counted}
 use Rattle.rs_outlet.proofs.Decided.Decisions.{none_decided, next_decided, all_decided}
 use Rattle.rs_outlet.proofs.turn.decide_all.Goals as goal
@@ -20,6 +21,7 @@ loop-number-init c = record {
       none_decided c.args.sources.now.ins.now (due_to (held_by c.args.sources.now) c.args.sources.now.client c.args.speech) c.args.rows.now.rows.items
       (λ m. nat_lt m 0) _ c.new-changes.ensures.items (λ m. grind (arith, nat_tests));
   choices = subst (AreChoices (held_by c.args.sources.now) c.args.sources.now.ins.now) (sym c.from_choices-draft.ensures.made) c.requires.choices;
+  memo = no_memo c.args.sources.now.config.now c.args.sources.now.client c.from_choices-draft.result.memo c.from_choices-draft.ensures.memo;
   most = omega arith;
   count = none_counted c.args.sources.now.ins.now c.args.rows.now.rows.items (any_holds (held_by c.args.sources.now));
 }
@@ -35,6 +37,7 @@ loop-number-preserved c =
           next_decided ins (due_to (held_by c.args.sources.now) c.args.sources.now.client c.args.speech) rows
           c.loop-number.number c.loop-number.changes.items _ inv.changes c.in_ok-decided.ensures.changes;
       choices = c.in_ok-decided.ensures.choices;
+      memo = c.in_ok-decided.ensures.memo;
       most = omega (arith, inv.most, at_most_one c.in_ok-decided.decided, one);
       count =
           next_counted ins rows (any_holds (held_by c.args.sources.now)) c.loop-number.number c.loop-number.count c.from-count.result c.in_ok-decided.decided one

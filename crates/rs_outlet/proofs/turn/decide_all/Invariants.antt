@@ -2,6 +2,7 @@ use Rattle.std.proofs.Common.{◌≤◌, nat_lt}
 use Rattle.rs_outlet.specs.Decided.Choices.{AreChoices}
 use Rattle.rs_outlet.specs.Decided.Due.{any_holds, due_to}
 use Rattle.rs_outlet.specs.Decided.HeldBy.{held_by}
+use Rattle.rs_outlet.specs.Decided.Memo.{IsMemo}
 use Rattle.rs_outlet.specs.Views.{IsNumberOf}
 use Rattle.rs_outlet.specs.Inside.{AreDecided}
 use Rattle.rs_outlet.specs.Decided.Counted.{is_counted_below}
@@ -11,6 +12,7 @@ abbrev pub invariant-loop-number : goal.invariant-loop-number
 invariant-loop-number l = record {
   changes : AreDecided l.sources.ins.now (due_to (held_by l.sources) l.sources.client l.speech) l.rows.rows.items (λ m. nat_lt m l.number) l.changes.items;
   choices : AreChoices (held_by l.sources) l.sources.ins.now l.draft.choices.kept.items;
+  memo : IsMemo l.sources.config.now l.sources.client l.draft.memo;
   most : l.count ≤ l.number;
   count : IsNumberOf (is_counted_below l.sources.ins.now l.rows.rows.items (any_holds (held_by l.sources)) l.number) l.count;
 }

@@ -2,6 +2,7 @@ use Rattle.std.proofs.Common.{◌<◌, ◌+◌, length, take, arith, refl, subst
 use Rattle.rs_outlet.specs.Decided.Choices.{AreChoices}
 use Rattle.rs_outlet.specs.Decided.Due.{due_to}
 use Rattle.rs_outlet.specs.Decided.HeldBy.{held_by}
+use Rattle.rs_outlet.proofs.Decided.Memo.{no_memo}
 use Rattle.rs_outlet.specs.Decided.Touching.{is_numbered_in}
 use Rattle.rs_outlet.proofs.Decided.Decisions.{none_decided, one_more_decided, entry_new, entry_more}
 use Rattle.rs_outlet.proofs.turn.decide_touched.Goals as goal
@@ -12,6 +13,7 @@ loop-number-init c = record {
       none_decided c.args.sources.now.ins.now (due_to (held_by c.args.sources.now) c.args.sources.now.client c.args.speech) c.args.rows.now.rows.items
       _ _ c.in_ok-changes.ensures.items (λ m. refl);
   choices = subst (AreChoices (held_by c.args.sources.now) c.args.sources.now.ins.now) (sym c.from_choices-draft.ensures.made) c.requires.choices;
+  memo = no_memo c.args.sources.now.config.now c.args.sources.now.client c.from_choices-draft.result.memo c.from_choices-draft.ensures.memo;
 }
 
 pub loop-number-preserved : goal.loop-number-preserved
@@ -28,4 +30,5 @@ loop-number-preserved c =
           c.in_ok-decide_number.ensures.changes
           (entry_more es i e below c.loop-number-item.is);
       choices = c.in_ok-decide_number.ensures.choices;
+      memo = c.in_ok-decide_number.ensures.memo;
     }

@@ -2,6 +2,7 @@ use Rattle.std.proofs.Common.{take}
 use Rattle.rs_outlet.specs.Decided.Choices.{AreChoices}
 use Rattle.rs_outlet.specs.Decided.Due.{due_to}
 use Rattle.rs_outlet.specs.Decided.HeldBy.{held_by}
+use Rattle.rs_outlet.specs.Decided.Memo.{IsMemo}
 use Rattle.rs_outlet.specs.Inside.{AreDecided}
 use Rattle.rs_outlet.specs.Decided.Touching.{is_numbered_in}
 use Rattle.rs_outlet.proofs.turn.decide_touched.Given as goal
@@ -10,4 +11,5 @@ abbrev pub invariant-loop-number : goal.invariant-loop-number
 invariant-loop-number l = record {
   decided : AreDecided l.sources.ins.now (due_to (held_by l.sources) l.sources.client l.speech) l.rows.rows.items (is_numbered_in (take l.number-index l.touched)) l.changes.items;
   choices : AreChoices (held_by l.sources) l.sources.ins.now l.draft.choices.kept.items;
+  memo : IsMemo l.sources.config.now l.sources.client l.draft.memo;
 }
