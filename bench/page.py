@@ -49,7 +49,8 @@ connection, comes back and announces again); and a late client without routes.
 - **one**, **gone**: until the last client has a single announcement, or withdrawal: the middle (p50) and the 99th of a hundred.
 - **flap gone**, **back**: from the drop until nobody has its routes, from its first UPDATE after the return until all have. **late**: from Established until the late client has all.
 
-`bird` has one table (a client whose own route is the best is told none), `bird-tables` one for each client (`bench/rsload/src/conf.rs`).
+`bird` has one table (a client whose own route is the best is told none), `bird-tables` one for each client (`bench/rsload/src/conf.rs`). Ours is
+started with what its unit sets (`examples/rs_served.service`).
 
 Times depend on what else runs on the machine: compare rows of one run alone.
 """

@@ -8,6 +8,7 @@ import shutil
 import subprocess
 
 HOST, PORT, API = "127.0.0.2", 1790, 1791
+UNIT = pathlib.Path(__file__).resolve().parent.parent / "examples" / "rs_served.service"
 FRR = pathlib.Path("/usr/lib/frr/bgpd")
 
 
@@ -18,11 +19,18 @@ def version_of(*words):
     return found[-1] if found else "unknown"
 
 
-class Server:
-    """A route server: its name in tables, the package that has it, and the name of its configuration."""
+def unit_environment():
+    """What our unit sets, as an operator's server has it."""
+    lines = (it.removeprefix("Environment=") for it in UNIT.read_text().splitlines() if it.startswith("Environment="))
+    return dict(it.split("=", 1) for it in lines)
 
-    def __init__(self, name, package, words, version, missing):
+
+class Server:
+    """A route server: its name in tables, the package that has it, the name of its configuration, and what is set for it."""
+
+    def __init__(self, name, package, words, version, missing, environment=None):
         self.name, self.package, self.words, self.version, self.missing = name, package, words, version, missing
+        self.environment = environment or {}
 
     @contextlib.contextmanager
     def running(self, room):
@@ -30,7 +38,9 @@ class Server:
         if self.package == "openbgpd":
             # It locks itself into the home folder of its user.
             os.makedirs(pwd.getpwnam("_openbgpd").pw_dir, exist_ok=True)
-        with open(room / "out", "w") as out, subprocess.Popen(self.words(room), stdout=out, stderr=out, stdin=subprocess.DEVNULL) as process:
+        with open(room / "out", "w") as out, subprocess.Popen(
+            self.words(room), stdout=out, stderr=out, stdin=subprocess.DEVNULL, env={**os.environ, **self.environment}
+        ) as process:
             try:
                 yield process
             finally:
@@ -52,7 +62,7 @@ def servers(program, workers):
     openbgpd = installed("bgpd", "bgpctl") or (None if os.getuid() == 0 else "wants to be started by root")
     gobgp = ["gobgpd", "-t", "toml", "--api-hosts", f"{HOST}:{API}", "--pprof-disable", "-l", "warn"]
     frr = [FRR, "-p", str(PORT), "-l", HOST, "-Z", "-S", "-P", "0"]
-    yield Server("ours", None, lambda room: [*program, "--config", room / "conf", "--workers", str(workers)], lambda: f"{workers} worker{'s' * (workers > 1)}", None)
+    yield Server("ours", None, lambda room: [*program, "--config", room / "conf", "--workers", str(workers)], lambda: f"{workers} worker{'s' * (workers > 1)}", None, unit_environment())
     yield Server("bird", "bird2", bird, lambda: version_of("bird", "--version"), installed("bird"))
     yield Server("bird-tables", "bird2", bird, lambda: version_of("bird", "--version"), installed("bird"))
     yield Server("openbgpd", "openbgpd", lambda room: ["bgpd", "-d", "-f", room / "conf"], lambda: version_of("bgpd", "-V"), openbgpd)
