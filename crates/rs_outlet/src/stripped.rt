@@ -14,7 +14,7 @@ use std::sync::Arc;
 /// How many rests a line has at most.
 const MOST: usize = 262_144;
 
-/// By how many strips rests are kept.
+/// By how many strips rests are kept, the last of which makes way for another.
 const STRIPS: usize = 16;
 
 /// What is left of a route that was met at the prefix of a number.
@@ -271,9 +271,8 @@ impl Stripped {
         }
         let mut rests = Rests::new(self.alloc, strip)?;
         let rest = rests.rest_of(self.alloc, number, whole)?;
-        if self.by.len() < STRIPS {
-            self.by.push(rests)?;
-        }
+        self.by.truncate(STRIPS - 1);
+        self.by.push(rests)?;
         Ok(rest)
     }
 }
