@@ -24,22 +24,56 @@ const STRIPPED: &str = concat!(
     "export = [{ action = \"pass\", strip = [\"64512:2\"] }]\n",
 );
 
-/// How many sets of attributes the sender announces.
+/// A sender, and a member to which 18 rules take 64512:1 out of routes with another community, by patterns of their own.
+const MANY_STRIPS: &str = concat!(
+    "as = 64500\nidentifier = \"192.0.2.1\"\n",
+    "[[client]]\nname = \"a\"\nas = 64512\nlisten = \"127.0.0.1:17901\"\npeer = \"127.0.1.1\"\n",
+    "[[client]]\nname = \"b\"\nas = 64513\nlisten = \"127.0.0.1:17901\"\npeer = \"127.0.1.2\"\n",
+    "export = [\n",
+    "{ community = \"64512:100\", action = \"pass\", strip = [\"64512:1\", \"64513:100\"] },\n",
+    "{ community = \"64512:101\", action = \"pass\", strip = [\"64512:1\", \"64513:101\"] },\n",
+    "{ community = \"64512:102\", action = \"pass\", strip = [\"64512:1\", \"64513:102\"] },\n",
+    "{ community = \"64512:103\", action = \"pass\", strip = [\"64512:1\", \"64513:103\"] },\n",
+    "{ community = \"64512:104\", action = \"pass\", strip = [\"64512:1\", \"64513:104\"] },\n",
+    "{ community = \"64512:105\", action = \"pass\", strip = [\"64512:1\", \"64513:105\"] },\n",
+    "{ community = \"64512:106\", action = \"pass\", strip = [\"64512:1\", \"64513:106\"] },\n",
+    "{ community = \"64512:107\", action = \"pass\", strip = [\"64512:1\", \"64513:107\"] },\n",
+    "{ community = \"64512:108\", action = \"pass\", strip = [\"64512:1\", \"64513:108\"] },\n",
+    "{ community = \"64512:109\", action = \"pass\", strip = [\"64512:1\", \"64513:109\"] },\n",
+    "{ community = \"64512:110\", action = \"pass\", strip = [\"64512:1\", \"64513:110\"] },\n",
+    "{ community = \"64512:111\", action = \"pass\", strip = [\"64512:1\", \"64513:111\"] },\n",
+    "{ community = \"64512:112\", action = \"pass\", strip = [\"64512:1\", \"64513:112\"] },\n",
+    "{ community = \"64512:113\", action = \"pass\", strip = [\"64512:1\", \"64513:113\"] },\n",
+    "{ community = \"64512:114\", action = \"pass\", strip = [\"64512:1\", \"64513:114\"] },\n",
+    "{ community = \"64512:115\", action = \"pass\", strip = [\"64512:1\", \"64513:115\"] },\n",
+    "{ community = \"64512:116\", action = \"pass\", strip = [\"64512:1\", \"64513:116\"] },\n",
+    "{ community = \"64512:117\", action = \"pass\", strip = [\"64512:1\", \"64513:117\"] },\n",
+    "]\n",
+);
+
+/// How many sets of attributes the sender announces to members that are alike, and how many to the one with many strips.
 const SETS: u8 = 40;
 
-/// ORIGIN IGP, AS_PATH 64512, NEXT_HOP 192.0.2.`host`, and the communities 64512:1 and 64512:2.
-fn attrs(rt: &impl Abort, alloc: Global, host: u8) -> Arc<Attrs> {
+const STRIPS: u8 = 18;
+
+/// ORIGIN IGP, AS_PATH 64512, NEXT_HOP 192.0.2.`host`, and the communities 64512:1 and 64512:`other`.
+fn attrs(rt: &impl Abort, alloc: Global, host: u8, other: u8) -> Arc<Attrs> {
     let field = [
         0x40, 1, 1, 0, 0x40, 2, 6, 2, 1, 0, 0, 0xfc, 0, 0x40, 3, 4, 0xc0, 0, 2, host, 0xc0, 8, 8,
-        0xfc, 0, 0, 1, 0xfc, 0, 0, 2,
+        0xfc, 0, 0, 1, 0xfc, 0, 0, other,
     ];
     shared(rt, alloc, &field)
 }
 
-/// The sender announces two prefixes with each set.
-fn announce(rt: &impl Abort, exchange: &mut Exchange) {
-    for host in 0..SETS {
-        let set = attrs(rt, exchange.alloc, host);
+/// The sender announces two prefixes with each of so many sets, whose other community is one number or rises from it.
+fn announce(rt: &impl Abort, exchange: &mut Exchange, sets: u8, other: u8, rises: bool) {
+    for host in 0..sets {
+        let other = if rises {
+            other.saturating_add(host)
+        } else {
+            other
+        };
+        let set = attrs(rt, exchange.alloc, host, other);
         exchange.announce(rt, u32::from(host) * 2, &set);
         exchange.announce(rt, u32::from(host) * 2 + 1, &set);
     }
@@ -60,9 +94,9 @@ fn turned(rt: &impl Abort, exchange: &Exchange, client: usize, choices: &mut Cho
     outlet
 }
 
-/// Each route that the client is due has so many owners.
-fn have_owners(rt: &impl Abort, exchange: &Exchange, outlet: &Outlet, want: usize) {
-    for n in 0..u32::from(SETS) * 2 {
+/// Each route of so many sets that the client is due has so many owners.
+fn have_owners(rt: &impl Abort, exchange: &Exchange, outlet: &Outlet, sets: u8, want: usize) {
+    for n in 0..u32::from(sets) * 2 {
         let attrs = outlet.route(&prefix(rt, n), &exchange.tables);
         equals(rt, Arc::strong_count(attrs.expect(rt, "a route")), want);
     }
@@ -72,14 +106,26 @@ fn have_owners(rt: &impl Abort, exchange: &Exchange, outlet: &Outlet, want: usiz
 #[test]
 fn clients_share_what_rules_left(rt: HostRuntime) {
     let mut exchange = Exchange::of(&rt, rt.alloc(), STRIPPED);
-    announce(&rt, &mut exchange);
+    announce(&rt, &mut exchange, SETS, 2, false);
     let mut choices = Choices::new(rt.alloc());
     let first = turned(&rt, &exchange, CLIENT, &mut choices);
     let alike = turned(&rt, &exchange, CLIENT + 1, &mut choices);
     let other = turned(&rt, &exchange, CLIENT + 2, &mut choices);
     drop(choices);
-    have_owners(&rt, &exchange, &first, 4);
-    have_owners(&rt, &exchange, &alike, 4);
-    have_owners(&rt, &exchange, &other, 2);
+    have_owners(&rt, &exchange, &first, SETS, 4);
+    have_owners(&rt, &exchange, &alike, SETS, 4);
+    have_owners(&rt, &exchange, &other, SETS, 2);
     let_go(exchange, first);
+}
+
+/// However many strips there are, prefixes of one set share what is left of it.
+#[test]
+fn prefixes_share_what_any_of_many_strips_left(rt: HostRuntime) {
+    let mut exchange = Exchange::of(&rt, rt.alloc(), MANY_STRIPS);
+    announce(&rt, &mut exchange, STRIPS, 100, true);
+    let mut choices = Choices::new(rt.alloc());
+    let outlet = turned(&rt, &exchange, CLIENT, &mut choices);
+    drop(choices);
+    have_owners(&rt, &exchange, &outlet, STRIPS, 2);
+    let_go(exchange, outlet);
 }
