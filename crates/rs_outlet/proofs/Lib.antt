@@ -2,3 +2,4 @@ pub mod Message
 pub mod Decided
 pub mod Pending
 mod OneOf
+mod SameRows

@@ -12,7 +12,8 @@ use Rattle.rs_attrs.specs.Meaning.{Attribute}
 use Rattle.rs_attrs.specs.Comparing.{attributes_hash}
 use Rattle.rs_open.specs.declared.short.Limit.TheVariants as limits
 use Rattle.rs_outlet.specs.declared.answers.Speech.{Speech}
-use Rattle.rs_outlet.specs.declared.rows.Row.{Row}
+pub use Rattle.rs_rows.specs.Rows.{joined, row_at, shown}
+use Rattle.rs_rows.specs.Rows.{IsPrepared, Listed, Row}
 use Rattle.rs_outlet.specs.declared.waiting.Wait.{Wait}
 use Rattle.rs_outlet.specs.declared.changes.Change.{Change}
 use Rattle.rs_adjin.specs.declared.adj_ins.AdjIns.{AdjIns}
@@ -28,23 +29,11 @@ use Rattle.rs_outlet.specs.Pending.Slots.{hash_of, open_at, told_of, marked_told
 
 -- ---- rows
 
-abbrev pub joined : Option (Option Row) → Option Row
-joined None = None
-joined (Some row) = row
-
--- the row of a number
-abbrev pub row_at : List (Option Row) → ℕ → Option Row
-row_at rows n = joined (slice_get rows n)
-
-abbrev pub shown : Option Row → Option (List Attribute)
-shown None = None
-shown (Some row) = Some (arc_value row.attrs)
-
 -- what is due, by the rows
 abbrev pub loc_of : List (Option Row) → Table
 loc_of [] = fin.empty
 loc_of (None ∷ rows) = loc_of rows
-loc_of (Some r ∷ rows) = fin.insert (loc_of rows) r.prefix (arc_value r.attrs)
+loc_of (Some r ∷ rows) = fin.insert (loc_of rows) r.prefix r.attributes
 
 -- the prefixes of the rows from number n on, with their numbers
 abbrev pub numbers_from : ℕ → List (Option Row) → List (ℕ × Prefix)
@@ -107,9 +96,13 @@ pub record AreDecided (ins : AdjIns) (due_at : Prefix → Option (List Attribute
 abbrev pub AreFresh : AdjIns → (Prefix → Option (List Attribute)) → List (Option Row) → (ℕ → Bool) → Type 0
 AreFresh ins due_at rows is_in = (p : Prefix) (n : ℕ) → number_of ins p ≡ Some n → is_in n ≡ false → attributes_at rows n ≡ due_at p
 
--- there is a row for each change
-abbrev pub HaveRows : List Change → ℕ → Type 0
-HaveRows cs count = AllByRecursion (λ c. c.number < count) cs
+-- there is a row for each change, which can be written
+abbrev pub HaveRows : List Change → Listed → Type 0
+HaveRows cs rows = AllByRecursion (λ c. (c.number < length rows.items) × IsPrepared rows.prepared c.number) cs
+
+-- each change has a number below this one
+abbrev pub AreBelow : List Change → ℕ → Type 0
+AreBelow cs count = AllByRecursion (λ c. c.number < count) cs
 
 -- none of them has this number
 abbrev pub IsNoNumberOf : ℕ → List (ℕ × Prefix) → Type 0
@@ -152,7 +145,7 @@ row_by rows due.Withdrawn = None
 row_by rows (due.Announced number hash) = row_at rows number
 
 abbrev pub prefix_and_hash : Row → Prefix × ℕ
-prefix_and_hash r = (r.prefix, attributes_hash (arc_value r.attrs))
+prefix_and_hash r = (r.prefix, attributes_hash r.attributes)
 
 -- the row of a number has this prefix, and attributes of this hash
 abbrev pub IsRowOf : List (Option Row) → ℕ → Prefix → ℕ → Type 0
@@ -178,7 +171,7 @@ abbrev pub FitsAlone : Speech → Prefix → List Attribute → Type 0
 FitsAlone speech p m = length (announcement m speech.mode (p ∷ [])) ≤ limit_octets speech.limit
 
 abbrev pub RowsFit : Speech → List (Option Row) → Type 0
-RowsFit speech rows = (n : ℕ) (r : Row) → row_at rows n ≡ Some r → FitsAlone speech r.prefix (arc_value r.attrs)
+RowsFit speech rows = (n : ℕ) (r : Row) → row_at rows n ≡ Some r → FitsAlone speech r.prefix r.attributes
 
 abbrev pub ChangesFit : Speech → List Change → Type 0
 ChangesFit speech cs = AllByRecursion (λ c. IfSome c.due (λ attrs. FitsAlone speech c.prefix (arc_value attrs))) cs

@@ -3,5 +3,4 @@ pub mod Decided
 pub mod Pending
 pub mod Message
 pub mod Inside
-pub mod Places
 pub mod Listing

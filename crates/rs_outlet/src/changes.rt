@@ -1,6 +1,6 @@
 //! The changes of a turn carried out: the rows have what is due, and what the client was not told so waits.
 
-ghost use Rattle.std.specs.Prelude.{◌≡◌, ◌≢◌, ◌<◌, ◌≤◌, ◌+◌, ◌++◌, ℕ, [], List, Option, None, Some, true, nat_eq, option_map, take, vec_len, if◌then◌else◌, IfSome, IfOk, IsTrue, OnOk};
+ghost use Rattle.std.specs.Prelude.{◌≡◌, ◌≢◌, ◌<◌, ◌≤◌, ◌+◌, ◌++◌, ℕ, [], List, Option, None, Some, true, nat_eq, option_map, length, take, vec_len, if◌then◌else◌, IfSome, IfOk, IsTrue, OnOk};
 ghost use Rattle.std.specs.List.{IsDistinct};
 ghost use Rattle.std.specs.Arc.{arc_value};
 ghost use Rattle.std.specs.FinMap as fin;
@@ -11,12 +11,13 @@ ghost use Rattle.rs_attrs.specs.Comparing.{attributes_hash};
 ghost use Rattle.rs_adjin.specs.declared.adj_ins.AdjIns.{AdjIns};
 ghost use Rattle.rs_adjin.specs.AdjIns.{number_of};
 ghost use Rattle.rs_outlet.specs.Views.{HaveNumbers};
+ghost use Rattle.rs_rows.specs.Rows.{IsPrepared};
 ghost use Rattle.std.specs.Vec.{vec_capacity};
 ghost use Rattle.rs_outlet.specs.Pending.Slots.{open_at, open_count, withdrawn_count};
 ghost use Rattle.rs_outlet.specs.Pending.Owed.{IsBeside, IsCarriedOut, IsOpenAt, IsOwed, Keeps, listed, prefixes_of};
 ghost use Rattle.rs_outlet.specs.declared.answers.Speech.{Speech};
 ghost use Rattle.rs_outlet.specs.declared.waiting.Due.{Due};
-ghost use Rattle.rs_outlet.specs.Inside.{AreBacked, AreChained, AreDue, AreOwn, ArePlaced, ChangesFit, FitsAlone, HaveRows, IsOwn, RowsFit, attributes_at, is_changed, numbers_of, row_at, loc_of, numbers_from};
+ghost use Rattle.rs_outlet.specs.Inside.{AreBacked, AreBelow, AreChained, AreDue, AreOwn, ArePlaced, ChangesFit, FitsAlone, HaveRows, IsOwn, RowsFit, attributes_at, is_changed, numbers_of, row_at, loc_of, numbers_from};
 
 use crate::table::Rows;
 use crate::waiting::{Due, Told, Wait, Waits};
@@ -104,10 +105,12 @@ fn list_wait(fresh: &mut Vec<Wait>, wait: Option<Wait>)
 
 /// Carries out one change: its row has what is due, and what waits there then is listed.
 fn carry_out(rows: &mut Rows, waits: &mut Waits, fresh: &mut Vec<Wait>, change: Change)
-    requires number { change.number < vec_len rows.old.rows }
+    requires number { change.number < length rows.old.rows.items }
+    requires prepared { IsPrepared rows.old.rows.prepared change.number }
     requires own { IsOwn (row_at rows.old.rows.items change.number) change.prefix }
     requires more { vec_len fresh.old < vec_capacity fresh.old }
-    ensures room { vec_len rows.new.rows ≡ vec_len rows.old.rows }
+    ensures room { length rows.new.rows.items ≡ length rows.old.rows.items }
+    ensures prepared { rows.new.rows.prepared ≡ rows.old.rows.prepared }
     ensures loc { (ins : AdjIns) → number_of ins change.prefix ≡ Some change.number → HaveNumbers (numbers_from 0 rows.old.rows.items) ins → (q : Prefix) → fin.get (loc_of rows.new.rows.items) q ≡ (if eq_by_cmp prefix_order q change.prefix then option_map arc_value change.due else fin.get (loc_of rows.old.rows.items) q) }
     ensures numbered { (ins : AdjIns) → number_of ins change.prefix ≡ Some change.number → HaveNumbers (numbers_from 0 rows.old.rows.items) ins → HaveNumbers (numbers_from 0 rows.new.rows.items) ins }
     ensures others { (n : ℕ) → n ≢ change.number → row_at rows.new.rows.items n ≡ row_at rows.old.rows.items n }
@@ -135,43 +138,58 @@ fn carry_out(rows: &mut Rows, waits: &mut Waits, fresh: &mut Vec<Wait>, change: 
     }
 }
 
-/// Makes room for so many changes, and for all that may wait then.
+/// Prepares the rows of changes.
+fn prepare(rows: &mut Rows, changes: &[Change]) -> Result<(), AllocError>
+    requires { AreBelow changes.now (length rows.old.rows.items) }
+    ensures rows { rows.new.rows.items ≡ rows.old.rows.items }
+    ensures used { rows.new.used ≡ rows.old.used }
+    ensures prepared { OnOk result (HaveRows changes.now rows.new.rows) }
+{
+    for change in changes {
+        rows.prepare(change.number)?;
+    }
+    Ok(())
+}
+
+/// Makes room for changes at numbers below one, and for all that may wait then.
 pub(crate) fn make_room(
     alloc: Global,
     rows: &mut Rows,
     waits: &mut Waits,
     numbers: usize,
-    changes: usize,
+    changes: &[Change],
 ) -> Result<Vec<Wait>, AllocError>
+    requires { AreBelow changes.now numbers }
     ensures rows { (n : ℕ) → row_at rows.new.rows.items n ≡ row_at rows.old.rows.items n }
     ensures loc { loc_of rows.new.rows.items ≡ loc_of rows.old.rows.items }
     ensures numbers { numbers_from 0 rows.new.rows.items ≡ numbers_from 0 rows.old.rows.items }
     ensures waits { waits.new.slots.items ≡ waits.old.slots.items }
     ensures chains { waits.new.chains.items ≡ waits.old.chains.items }
     ensures sorted { waits.new.sorted ≡ waits.old.sorted }
-    ensures room { OnOk result (numbers ≤ vec_len rows.new.rows) }
+    ensures room { OnOk result (HaveRows changes.now rows.new.rows) }
     ensures none { IfOk result (λ fresh. fresh.items ≡ []) }
-    ensures fresh { IfOk result (λ fresh. changes ≤ vec_capacity fresh) }
-    ensures more { OnOk result (open_count waits.old.slots.items + changes ≤ vec_capacity waits.new.slots) }
-    ensures all { OnOk result (rows.new.used + withdrawn_count waits.new.slots.items + changes ≤ vec_capacity waits.new.slots) }
+    ensures fresh { IfOk result (λ fresh. length changes.now ≤ vec_capacity fresh) }
+    ensures more { OnOk result (open_count waits.old.slots.items + length changes.now ≤ vec_capacity waits.new.slots) }
+    ensures all { OnOk result (rows.new.used + withdrawn_count waits.new.slots.items + length changes.now ≤ vec_capacity waits.new.slots) }
     ensures used { rows.new.used ≡ rows.old.used }
     ensures capacity { vec_capacity waits.old.slots ≤ vec_capacity waits.new.slots }
 {
     rows.grow(numbers)?;
-    let Some(more) = rows.used().checked_add(changes) else {
+    prepare(rows, changes)?;
+    let Some(more) = rows.used().checked_add(changes.len()) else {
         return Err(AllocError);
     };
     let Some(count) = waits.len().checked_add(more) else {
         return Err(AllocError);
     };
     waits.reserve(count)?;
-    let fresh = Vec::with_capacity(alloc, waits.room_for(changes))?;
+    let fresh = Vec::with_capacity(alloc, waits.room_for(changes.len()))?;
     Ok(fresh)
 }
 
 /// Carries out the changes, for which there is room. Without a change all stays as it is.
 pub(crate) fn commit(rows: &mut Rows, waits: &mut Waits, changes: Vec<Change>, mut fresh: Vec<Wait>)
-    requires rows { HaveRows changes.items (vec_len rows.old.rows) }
+    requires rows { HaveRows changes.items rows.old.rows }
     requires once { IsDistinct (eq_by_cmp prefix_order) (prefixes_of changes.items) }
     requires numbers { IsDistinct nat_eq (numbers_of changes.items) }
     requires own { AreOwn changes.items rows.old.rows.items }

@@ -10,11 +10,12 @@
 //! - `touched` is what the next turn decides; `turn` decides it, by `deciding`, which says what is
 //!   due at one prefix; `memo` is what it leaves to the next prefix, `choices` and `stripped` to the
 //!   outlets that turn next.
-//! - `changes` puts that into `rows`, the Loc-RIB by number, which keeps each in a `place` of a
-//!   `table`, and into `waiting`, what is to be sent: slots in two `parts`, of which `merging` makes
-//!   one. `marking` makes all that was told wait again.
+//! - `changes` puts that into `rows`, the Loc-RIB by number in a `table` of blocks that outlets share, and into
+//!   `waiting`, what is to be sent: slots in two `parts`, of which `merging` makes one. `marking` makes all that was
+//!   told wait again.
 //! - `choosing` says which slots the next UPDATE is about, going along the `chains` of slots with the
 //!   same attributes; `sending` and `fill` begin the next message.
+//! - `sharing` lets outlets that are due the same have one copy of their rows.
 //! - `noting` has routes noted by the import lists of a configuration, as a turn wants them.
 //! - `routes` shows the Loc-RIB; `laws` are contracts of functions that do nothing.
 #![tactic(auto)]
@@ -28,11 +29,11 @@ pub mod laws;
 mod memo;
 mod noting;
 mod outlet;
-mod place;
 mod queries;
 mod routes;
 mod rows;
 mod sending;
+mod sharing;
 mod sizes;
 mod stripped;
 mod table;

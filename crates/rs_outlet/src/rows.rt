@@ -1,23 +1,17 @@
 //! The Loc-RIB of a client: a row for each number that the Adj-RIBs-In gave to a prefix.
 
-ghost use Rattle.std.specs.Prelude.{◌≡◌, ◌≤◌, ◌<◌, ◌+◌, ℕ, [], Some, None, IfOk, IsTrue, OnOk, length, vec_len, slice_set, option_map};
+ghost use Rattle.std.specs.Prelude.{◌≡◌, ◌≤◌, ◌<◌, ◌+◌, ℕ, [], Some, None, IfOk, IsTrue, OnOk, length, slice_set, option_map};
 ghost use Rattle.std.specs.Arc.{arc_value};
-ghost use Rattle.rs_outlet.specs.Inside.{IsOwn, attributes_at, row_at, shown, loc_of, numbers_from};
-ghost use Rattle.rs_outlet.specs.Places.{lent_row};
+ghost use Rattle.rs_rows.specs.Places.{lent_row};
+ghost use Rattle.rs_rows.specs.Rows.{IsPrepared, row_at, shown};
+ghost use Rattle.rs_outlet.specs.Inside.{IsOwn, attributes_at, loc_of, numbers_from};
 
-use crate::place::{Lent, Place};
 use crate::table::Rows;
 use rs_attrs::Attrs;
 use rs_octets::Prefix;
+use rs_rows::{Blocks, Lent};
 use std::alloc::{AllocError, Global};
 use std::sync::Arc;
-
-/// A route that is due, beside its prefix.
-#[derive(Drop)]
-pub(crate) struct Row {
-    pub(crate) prefix: Prefix,
-    pub(crate) attrs: Arc<Attrs>,
-}
 
 impl Rows {
     pub(crate) fn new(alloc: Global) -> Rows
@@ -25,7 +19,7 @@ impl Rows {
         ensures used { result.used ≡ 0 }
     {
         Rows {
-            rows: Vec::new(alloc),
+            rows: Blocks::new(alloc),
             used: 0,
         }
     }
@@ -35,7 +29,8 @@ impl Rows {
         ensures rows { self.new.rows.items ≡ [] }
         ensures used { self.new.used ≡ 0 }
     {
-        *self = Rows::new(*self.rows.allocator());
+        self.rows.clear();
+        self.used = 0;
     }
 
     /// How many rows have a route.
@@ -47,9 +42,10 @@ impl Rows {
 
     /// How many rows there are.
     pub(crate) fn count(&self) -> usize
-        ensures { result ≡ vec_len self.now.rows }
+        ensures rows { result ≡ length self.now.rows.items }
+        ensures most { result ≤ 4294967296 }
     {
-        self.rows.len()
+        self.rows.count()
     }
 
     /// The row of a number, where it has a route.
@@ -63,10 +59,7 @@ impl Rows {
     pub(crate) fn at(&self, index: usize) -> Option<Lent<'_>>
         ensures { option_map lent_row result ≡ row_at self.now.rows.items index }
     {
-        match self.rows.get(index) {
-            Some(place) => place.row(),
-            None => None,
-        }
+        self.rows.at(index)
     }
 
     /// What is due by the row of a number.
@@ -94,29 +87,34 @@ impl Rows {
         ensures rows { (n : ℕ) → row_at self.new.rows.items n ≡ row_at self.old.rows.items n }
         ensures loc { loc_of self.new.rows.items ≡ loc_of self.old.rows.items }
         ensures numbers { numbers_from 0 self.new.rows.items ≡ numbers_from 0 self.old.rows.items }
-        ensures room { OnOk result (count ≤ vec_len self.new.rows) }
+        ensures room { OnOk result (count ≤ length self.new.rows.items) }
         ensures used { self.new.used ≡ self.old.used }
     {
-        let Ok(_) = u32::try_from(count) else {
-            return Err(AllocError);
-        };
-        let more = count.saturating_sub(self.rows.len());
-        self.rows.reserve(more)?;
-        for _ in 0..more {
-            self.rows.push_reserved(Place::free());
-        }
-        Ok(())
+        self.rows.grow(count)
+    }
+
+    /// The row of a number can be written.
+    pub(crate) fn prepare(&mut self, number: u32) -> Result<(), AllocError>
+        requires { number < length self.old.rows.items }
+        ensures rows { self.new.rows.items ≡ self.old.rows.items }
+        ensures used { self.new.used ≡ self.old.used }
+        ensures prepared { OnOk result (IsPrepared self.new.rows.prepared number) }
+        ensures kept { (n : ℕ) → IsPrepared self.old.rows.prepared n → IsPrepared self.new.rows.prepared n }
+    {
+        self.rows.prepare(number)
     }
 
     /// Takes the route out of the row of a number.
     pub(crate) fn take(&mut self, number: u32) -> Option<Arc<Attrs>>
-        requires { number < vec_len self.old.rows }
+        requires number { number < length self.old.rows.items }
+        requires prepared { IsPrepared self.old.rows.prepared number }
         ensures rows { self.new.rows.items ≡ slice_set self.old.rows.items number None }
-        ensures room { vec_len self.new.rows ≡ vec_len self.old.rows }
+        ensures room { length self.new.rows.items ≡ length self.old.rows.items }
+        ensures prepared { self.new.rows.prepared ≡ self.old.rows.prepared }
         ensures was { option_map arc_value result ≡ shown (row_at self.old.rows.items number) }
         ensures used { self.new.used ≤ self.old.used }
     {
-        match self.rows[number as usize].take() {
+        match self.rows.take(number) {
             None => None,
             Some(attrs) => {
                 self.used -= 1;
@@ -127,13 +125,33 @@ impl Rows {
 
     /// Puts a route into the free row of a number.
     pub(crate) fn put(&mut self, number: u32, prefix: Prefix, attrs: Arc<Attrs>)
-        requires number { number < vec_len self.old.rows }
+        requires number { number < length self.old.rows.items }
+        requires prepared { IsPrepared self.old.rows.prepared number }
         requires free { row_at self.old.rows.items number ≡ None }
-        ensures rows { self.new.rows.items ≡ slice_set self.old.rows.items number (Some (record { prefix = prefix; attrs = attrs })) }
-        ensures room { vec_len self.new.rows ≡ vec_len self.old.rows }
+        ensures rows { self.new.rows.items ≡ slice_set self.old.rows.items number (Some (record { prefix = prefix; attributes = arc_value attrs })) }
+        ensures room { length self.new.rows.items ≡ length self.old.rows.items }
+        ensures prepared { self.new.rows.prepared ≡ self.old.rows.prepared }
         ensures used { self.new.used ≡ self.old.used + 1 }
     {
-        self.rows[number as usize] = Place::of(Row { prefix, attrs });
+        // for the prover: one more can be counted
+        let _count = self.rows.count();
+        self.rows.put(number, prefix, attrs);
         self.used += 1;
+    }
+
+    /// Where another client has the same rows in a block that a turn wrote, both have one copy.
+    pub(crate) fn adopt(&mut self, other: &Rows)
+        ensures rows { self.new.rows.items ≡ self.old.rows.items }
+        ensures used { self.new.used ≡ self.old.used }
+    {
+        self.rows.adopt(&other.rows);
+    }
+
+    /// Other clients can share the blocks that a turn wrote.
+    pub(crate) fn settle(&mut self)
+        ensures rows { self.new.rows.items ≡ self.old.rows.items }
+        ensures used { self.new.used ≡ self.old.used }
+    {
+        self.rows.settle();
     }
 }

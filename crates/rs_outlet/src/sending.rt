@@ -12,7 +12,7 @@ ghost use Rattle.rs_outlet.specs.Views.{WaitsAreExact};
 ghost use Rattle.rs_outlet.specs.Pending.Choosing.{AnyPasses, IsLeastOf, MayUpdate, NoneWithdrawn, WaitsFor};
 ghost use Rattle.rs_outlet.specs.Inside.{AreBacked, AreChained, RowsFit};
 ghost use Rattle.rs_outlet.specs.declared.answers.Speech.{Speech};
-ghost use Rattle.rs_outlet.specs.declared.rows.Row.{Row};
+ghost use Rattle.rs_rows.specs.Rows.{Row};
 ghost use Rattle.std.specs.Vec.{vec_capacity};
 ghost use Rattle.rs_outlet.specs.Pending.Slots.{is_announced, is_withdrawn};
 ghost use Rattle.rs_open.specs.Notes.{limit_octets};

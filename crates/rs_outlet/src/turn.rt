@@ -307,7 +307,7 @@ impl Outlet {
             &mut self.rows,
             &mut self.waits,
             numbers,
-            changes.len(),
+            &changes,
         )?;
         self.asked &= changes.is_empty();
         commit(&mut self.rows, &mut self.waits, changes, fresh);

@@ -97,7 +97,7 @@ pub(crate) struct Waits {
 }
 
 impl Waits {
-    ghost use Rattle.rs_outlet.specs.declared.rows.Row.{Row};
+    ghost use Rattle.rs_rows.specs.Rows.{Row};
     ghost use Rattle.rs_outlet.specs.Inside.{AreChained};
 
     pub(crate) fn new(alloc: Global) -> Waits

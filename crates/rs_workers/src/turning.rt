@@ -8,6 +8,7 @@ ghost use Rattle.rs_outlet.specs.Decided.HeldBy.{tables_of};
 ghost use Rattle.rs_workers.specs.Turned.{ArePlaced, AllTurnedAlone, TurnedAlone};
 
 use crate::gate::Gate;
+use crate::sharing::share_at;
 use rs_adjin::AdjIns;
 use rs_outlet::{Choices, Outlet};
 use rs_policy::Config;
@@ -45,7 +46,8 @@ pub fn turn_all<R: Threads + Wait + Sync, G: Gate>(
     thread::for_each_chunk_mut(rt, outlets, size, &turn);
 }
 
-/// Turns the outlets of one share, one after the other: choices that were made for one serve the next.
+/// Turns the outlets of one share, one after the other: choices that were made for one serve the next,
+/// and so do rows.
 pub(crate) fn turn_share<G: Gate>(
     alloc: Global,
     gate: &G,
@@ -63,6 +65,7 @@ pub(crate) fn turn_share<G: Gate>(
     let mut choices = Choices::new(alloc);
     for k in 0..outlets.len() {
         turn_one(&mut outlets[k], tables, config, &mut choices);
+        share_at(outlets, k);
     }
 }
 

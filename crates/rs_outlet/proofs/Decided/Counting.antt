@@ -10,7 +10,7 @@ use Rattle.std.proofs.lemmas.Bool.{cases_eq}
 use Rattle.rs_octets.specs.Prefixes.{Prefix, prefix_order}
 use Rattle.rs_adjin.specs.declared.adj_ins.AdjIns.{AdjIns}
 use Rattle.rs_adjin.specs.AdjIns.{number_of, prefix_of}
-use Rattle.rs_outlet.specs.declared.rows.Row.{Row}
+use Rattle.rs_rows.specs.Rows.{Row}
 use Rattle.rs_outlet.specs.Views.{IsCount, IsNumberOf, Prefixes, Table, is_whole}
 use Rattle.rs_outlet.specs.Inside.{row_at, shown, loc_of}
 use Rattle.rs_outlet.specs.Decided.Counted.{if_numbered, is_standing, is_counted, is_counted_below}

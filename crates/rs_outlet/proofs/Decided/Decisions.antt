@@ -11,7 +11,7 @@ use Rattle.rs_octets.specs.Prefixes.{Prefix}
 use Rattle.rs_attrs.specs.Meaning.{Attribute}
 use Rattle.rs_adjin.specs.declared.adj_ins.AdjIns.{AdjIns}
 use Rattle.rs_adjin.specs.AdjIns.{number_of}
-use Rattle.rs_outlet.specs.declared.rows.Row.{Row}
+use Rattle.rs_rows.specs.Rows.{Row}
 use Rattle.rs_outlet.specs.declared.changes.Change.{Change}
 use Rattle.rs_outlet.specs.Inside.{AreDecided, IsChangeAt, IsDecidedAt, IsOwn, attributes_at, numbers_of, row_at}
 use Rattle.rs_outlet.specs.Decided.Touching.{is_numbered_in}

@@ -16,7 +16,7 @@ use Rattle.rs_adjin.specs.Listing.{Counts}
 use Rattle.rs_adjin.proofs.Listed.{prefixes_total}
 use Rattle.rs_policy.specs.Configuration.{Configuration}
 use Rattle.rs_outlet.specs.declared.answers.Speech.{Speech}
-use Rattle.rs_outlet.specs.declared.rows.Row.{Row}
+use Rattle.rs_rows.specs.Rows.{Row}
 use Rattle.rs_outlet.specs.Views.{HaveNumbers, IsNumberOf}
 use Rattle.rs_outlet.specs.Inside.{AreFresh, attributes_at, row_at}
 use Rattle.rs_outlet.specs.Decided.Counted.{if_numbered, is_counted, is_left, is_standing}

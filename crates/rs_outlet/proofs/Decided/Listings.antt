@@ -18,7 +18,7 @@ use Rattle.rs_attrs.specs.Meaning.{Attribute}
 use Rattle.rs_adjin.specs.declared.adj_ins.AdjIns.{AdjIns}
 use Rattle.rs_adjin.specs.AdjIns.{number_of}
 use Rattle.rs_adjin.specs.Onward.{is_from}
-use Rattle.rs_outlet.specs.declared.rows.Row.{Row}
+use Rattle.rs_rows.specs.Rows.{Row}
 use Rattle.rs_outlet.specs.Inside.{attributes_at, loc_of}
 use Rattle.rs_outlet.specs.Listing.{routes_at, with_route}
 use Rattle.rs_adjin.proofs.Listed.{exact_prefixes, prefixes_total}

@@ -2,7 +2,6 @@
 use Rattle.std.proofs.Common.{Bool, true, false, cond, ◌≡◌, ◌≢◌, ◌<◌, ◌+◌, ℕ, zero, suc, List, [], ◌∷◌, length, Option, None, Some, refl, sym, ◌∙◌, ap, subst, arith, inl, inr, slice_set}
 use Rattle.std.specs.Prelude.{count_by, is_some, slice_get}
 use Rattle.std.specs.FinMap as fin
-use Rattle.std.specs.Arc.{arc_value}
 use Rattle.std.specs.Ordering.{eq_by_cmp, is_eq}
 use Rattle.std.proofs.lemmas.Cmp.{tied_itself}
 use Rattle.std.proofs.lemmas.List.Sums.{sum_by-cons}
@@ -13,7 +12,7 @@ use Rattle.rs_attrs.specs.Meaning.{Attribute}
 use Rattle.rs_adjin.specs.declared.adj_ins.AdjIns.{AdjIns}
 use Rattle.rs_adjin.specs.AdjIns.{number_of}
 use Rattle.rs_adjin.proofs.TableRows.{none_some, set_here, set_apart, some_row}
-use Rattle.rs_outlet.specs.declared.rows.Row.{Row}
+use Rattle.rs_rows.specs.Rows.{Row}
 use Rattle.rs_outlet.specs.Views.{HaveNumbers}
 use Rattle.rs_outlet.specs.Inside.{joined, row_at, shown, loc_of, numbers_from}
 use Rattle.rs_outlet.proofs.Decided.Numbering.{number_once}
@@ -51,15 +50,15 @@ value_at rows (Some n) = shown (row_at rows n)
 abbrev table_of : List (Option Row) → Prefix → Option (List Attribute)
 table_of [] p = None
 table_of (None ∷ rows) p = table_of rows p
-table_of (Some r ∷ rows) p = cond (same p r.prefix) (Some (arc_value r.attrs)) (table_of rows p)
+table_of (Some r ∷ rows) p = cond (same p r.prefix) (Some r.attributes) (table_of rows p)
 
 loc_table : (rows : List (Option Row)) (q : Prefix) → fin.get (loc_of rows) q ≡ table_of rows q
 loc_table [] q = fin.get-empty prefix_order q
 loc_table (None ∷ rows) q = loc_table rows q
-loc_table (Some r ∷ rows) q = fin.get-insert prefixes_total (loc_of rows) r.prefix (arc_value r.attrs) q ∙ ap (cond (same q r.prefix) (Some (arc_value r.attrs))) (loc_table rows q)
+loc_table (Some r ∷ rows) q = fin.get-insert prefixes_total (loc_of rows) r.prefix r.attributes q ∙ ap (cond (same q r.prefix) (Some r.attributes)) (loc_table rows q)
 
-at_first : (r : Row) (rows : List (Option Row)) (p : Prefix) (b : Bool) → same p r.prefix ≡ b → table_of (Some r ∷ rows) p ≡ cond b (Some (arc_value r.attrs)) (table_of rows p)
-at_first r rows p b is = ap (λ t. cond t (Some (arc_value r.attrs)) (table_of rows p)) is
+at_first : (r : Row) (rows : List (Option Row)) (p : Prefix) (b : Bool) → same p r.prefix ≡ b → table_of (Some r ∷ rows) p ≡ cond b (Some r.attributes) (table_of rows p)
+at_first r rows p b is = ap (λ t. cond t (Some r.attributes) (table_of rows p)) is
 
 none_at : (x : Row) (rows : List (Option Row)) (p : Prefix) (b : Bool) → same p x.prefix ≡ b → x.prefix ≢ p → table_of rows p ≡ None → table_of (Some x ∷ rows) p ≡ None
 none_at x rows p true is not rest = absurd (not (sym (same_is p x.prefix is)))
@@ -74,16 +73,16 @@ one_at : (x : Row) (rows : List (Option Row)) (p : Prefix) (v : List Attribute) 
 one_at x rows p v true is not rest = absurd (not (sym (same_is p x.prefix is)))
 one_at x rows p v false is not rest = at_first x rows p false is ∙ rest
 
-find_one : (rows : List (Option Row)) (p : Prefix) (n : ℕ) (r : Row) → ((m : ℕ) (s : Row) → row_at rows m ≡ Some s → s.prefix ≡ p → m ≡ n) → row_at rows n ≡ Some r → r.prefix ≡ p → table_of rows p ≡ Some (arc_value r.attrs)
+find_one : (rows : List (Option Row)) (p : Prefix) (n : ℕ) (r : Row) → ((m : ℕ) (s : Row) → row_at rows m ≡ Some s → s.prefix ≡ p → m ≡ n) → row_at rows n ≡ Some r → r.prefix ≡ p → table_of rows p ≡ Some r.attributes
 find_one [] p n r once is at = absurd (cc)
 find_one (None ∷ rows) p zero r once is at = absurd (cc)
 find_one (None ∷ rows) p (suc n) r once is at = find_one rows p n r (λ m s there same. let e : suc m ≡ suc n = once (suc m) s there same in omega (arith, e)) is at
 find_one (Some x ∷ rows) p zero r once is at =
     let e : x ≡ r = same_Some x r is in
     let s : same p x.prefix ≡ true = ap (same p) (ap (λ (t : Row). t.prefix) e ∙ at) ∙ same_itself p in
-    at_first x rows p true s ∙ ap (λ (t : Row). Some (arc_value t.attrs)) e
+    at_first x rows p true s ∙ ap (λ (t : Row). Some t.attributes) e
 find_one (Some x ∷ rows) p (suc n) r once is at =
-    one_at x rows p (arc_value r.attrs) (same p x.prefix) refl
+    one_at x rows p r.attributes (same p x.prefix) refl
     (λ s. let e : 0 ≡ suc n = once 0 x refl s in absurd (omega (arith, e)))
     (find_one rows p n r (λ m s there same. let e : suc m ≡ suc n = once (suc m) s there same in omega (arith, e)) is at)
 
@@ -143,6 +142,6 @@ loc_len ins k (Some r ∷ rows) h =
     let e : suc k + n ≡ k = same_Some (suc k + n) k (sym (numbered_from ins (suc k) rows h.1 n s is) ∙ (ap (number_of ins) same ∙ h.0)) in
     omega (arith, e)) in
     let absent : is_some (fin.get (loc_of rows) r.prefix) ≡ false = ap is_some (loc_table rows r.prefix ∙ none) in
-    let more = fin.len-insert prefixes_total (loc_of rows) r.prefix (arc_value r.attrs) ∙ ap (λ b. cond b (fin.len (loc_of rows)) (fin.len (loc_of rows) + 1)) absent in
+    let more = fin.len-insert prefixes_total (loc_of rows) r.prefix r.attributes ∙ ap (λ b. cond b (fin.len (loc_of rows)) (fin.len (loc_of rows) + 1)) absent in
     let one : count_by is_some (Some r ∷ rows) ≡ 1 + count_by is_some rows = sum_by-cons (λ (o : Option Row). cond (is_some o) 1 0) (Some r) rows in
     omega (arith, more, one, loc_len ins (suc k) rows h.1)

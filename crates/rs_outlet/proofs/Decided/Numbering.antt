@@ -1,13 +1,13 @@
 -- Prefixes and the numbers that the Adj-RIBs-In gave to them.
-use Rattle.std.proofs.Common.{◌≡◌, ℕ, zero, suc, ◌+◌, List, [], ◌∷◌, ◌++◌, length, Option, None, Some, slice_set, sym, ap, refl, ◌∙◌, subst, arith}
+use Rattle.std.proofs.Common.{◌≡◌, ℕ, zero, suc, ◌+◌, List, [], ◌∷◌, ◌++◌, get_or, length, replicate, Option, None, Some, slice_set, sym, ap, refl, ◌∙◌, subst, arith}
 use Rattle.std.specs.Prelude.{◌<◌, ◌≤◌}
 use Rattle.std.specs.FinMap as fin
-use Rattle.std.specs.Arc.{arc_value}
-use Rattle.rs_outlet.specs.declared.rows.Row.{Row}
+use Rattle.rs_rows.specs.Rows.{IsPrepared, Listed, Row}
+use Rattle.rs_rows.specs.Blocks.{IsGrown}
 use Rattle.rs_outlet.specs.declared.changes.Change.{Change}
 use Rattle.rs_outlet.specs.declared.outlet.Outlet.TheInside.{Inside}
 use Rattle.rs_outlet.specs.Views.{Table, View, AreNumbered, HaveNumbers}
-use Rattle.rs_outlet.specs.Inside.{row_at, loc_of, numbers_from, view_of, ArePlaced, HaveRows, IsNoNumberOf}
+use Rattle.rs_outlet.specs.Inside.{row_at, loc_of, numbers_from, view_of, AreBelow, ArePlaced, HaveRows, IsNoNumberOf}
 use Rattle.std.specs.List.{AllByRecursion}
 use Rattle.std.proofs.lemmas.Option.{same_Some}
 use Rattle.rs_octets.specs.Prefixes.{Prefix}
@@ -60,23 +60,46 @@ pub number_once : (ins : AdjIns) (p q : Prefix) (n : ℕ) → number_of ins p �
 unfolding number_of
 number_once ins p q n a b = same_Some p q (sym (ins.table.inverse.there p n a) ∙ ins.table.inverse.there q n b)
 
--- ---- a free row more
+-- ---- free rows more
 
-pub push_row : (rows : List (Option Row)) (m : ℕ) → row_at (rows ++ None ∷ []) m ≡ row_at rows m
-push_row [] zero = refl
-push_row [] (suc m) = refl
-push_row (x ∷ rows) zero = refl
-push_row (x ∷ rows) (suc m) = push_row rows m
+free_at : (k m : ℕ) → row_at (replicate k None) m ≡ None
+free_at zero zero = refl
+free_at zero (suc m) = refl
+free_at (suc k) zero = refl
+free_at (suc k) (suc m) = free_at k m
 
-pub push_loc : (rows : List (Option Row)) → loc_of (rows ++ None ∷ []) ≡ loc_of rows
-push_loc [] = refl
-push_loc (None ∷ rows) = push_loc rows
-push_loc (Some r ∷ rows) = ap (λ (t : Table). fin.insert t r.prefix (arc_value r.attrs)) (push_loc rows)
+grown_at : (k : ℕ) (rows : List (Option Row)) (m : ℕ) → row_at (rows ++ replicate k None) m ≡ row_at rows m
+grown_at k [] zero = free_at k 0
+grown_at k [] (suc m) = free_at k (suc m)
+grown_at k (x ∷ rows) zero = refl
+grown_at k (x ∷ rows) (suc m) = grown_at k rows m
 
-pub push_numbers : (k : ℕ) (rows : List (Option Row)) → numbers_from k (rows ++ None ∷ []) ≡ numbers_from k rows
-push_numbers k [] = refl
-push_numbers k (None ∷ rows) = push_numbers (suc k) rows
-push_numbers k (Some r ∷ rows) = ap (λ es. (k, r.prefix) ∷ es) (push_numbers (suc k) rows)
+free_loc : (k : ℕ) → loc_of (replicate k None) ≡ fin.empty
+free_loc zero = refl
+free_loc (suc k) = free_loc k
+
+loc_behind : (k : ℕ) (rows : List (Option Row)) → loc_of (rows ++ replicate k None) ≡ loc_of rows
+loc_behind k [] = free_loc k
+loc_behind k (None ∷ rows) = loc_behind k rows
+loc_behind k (Some r ∷ rows) = ap (λ (t : Table). fin.insert t r.prefix r.attributes) (loc_behind k rows)
+
+free_numbers : (n k : ℕ) → numbers_from n (replicate k None) ≡ []
+free_numbers n zero = refl
+free_numbers n (suc k) = free_numbers (suc n) k
+
+numbers_behind : (n k : ℕ) (rows : List (Option Row)) → numbers_from n (rows ++ replicate k None) ≡ numbers_from n rows
+numbers_behind n k [] = free_numbers n k
+numbers_behind n k (None ∷ rows) = numbers_behind (suc n) k rows
+numbers_behind n k (Some r ∷ rows) = ap (λ es. (n, r.prefix) ∷ es) (numbers_behind (suc n) k rows)
+
+pub grown_row : (old new : List (Option Row)) (m : ℕ) → IsGrown old new → row_at new m ≡ row_at old m
+grown_row old new m (k, is) = ap (λ rows. row_at rows m) is ∙ grown_at k old m
+
+pub grown_loc : (old new : List (Option Row)) → IsGrown old new → loc_of new ≡ loc_of old
+grown_loc old new (k, is) = ap loc_of is ∙ loc_behind k old
+
+pub grown_numbers : (old new : List (Option Row)) → IsGrown old new → numbers_from 0 new ≡ numbers_from 0 old
+grown_numbers old new (k, is) = ap (numbers_from 0) is ∙ numbers_behind 0 k old
 
 -- ---- a row written
 
@@ -127,7 +150,32 @@ numbers_write ins rows n r h is =
 pub numbers_erase : (ins : AdjIns) (rows : List (Option Row)) (n : ℕ) → HaveNumbers (numbers_from 0 rows) ins → HaveNumbers (numbers_from 0 (slice_set rows n None)) ins
 numbers_erase ins rows n h = numbers_set (λ e. number_of ins e.1 ≡ Some e.0) 0 rows n None h (λ s e. cc e)
 
--- a change at a number that a prefix has stands at a row
-pub have_rows : (cs : List Change) (ins : AdjIns) (most count : ℕ) → ((p : Prefix) (n : ℕ) → number_of ins p ≡ Some n → n < most) → most ≤ count → ArePlaced cs ins → HaveRows cs count
-have_rows [] ins most count below fits h = tt
-have_rows (c ∷ cs) ins most count below fits h = (let l : c.number < most = below c.prefix c.number h.0 in omega (arith, l, fits), have_rows cs ins most count below fits h.1)
+-- a change at a number that a prefix has is below all numbers
+pub are_below : (cs : List Change) (ins : AdjIns) (most : ℕ) → ((p : Prefix) (n : ℕ) → number_of ins p ≡ Some n → n < most) → ArePlaced cs ins → AreBelow cs most
+are_below [] ins most below h = tt
+are_below (c ∷ cs) ins most below h = (below c.prefix c.number h.0, are_below cs ins most below h.1)
+
+pub more_below : (cs : List Change) (most count : ℕ) → most ≤ count → AreBelow cs most → AreBelow cs count
+more_below [] most count fits h = tt
+more_below (c ∷ cs) most count fits h = (let l : c.number < most = h.0 in omega (arith, l, fits), more_below cs most count fits h.1)
+
+-- ---- what is prepared
+
+abbrev IsReady : Listed → Change → Type 0
+IsReady rows c = (c.number < length rows.items) × IsPrepared rows.prepared c.number
+
+kept_ready : (old new : Listed) (cs : List Change) → new.items ≡ old.items → ((n : ℕ) → IsPrepared old.prepared n → IsPrepared new.prepared n) → HaveRows cs old → HaveRows cs new
+kept_ready old new [] same kept h = tt
+kept_ready old new (c ∷ cs) same kept h = ((let l = h.0.0 in omega (arith, l, ap length same), kept c.number h.0.1), kept_ready old new cs same kept h.1)
+
+-- a change more is prepared
+pub one_more_ready : (old new : Listed) (cs : List Change) (c : Change) → new.items ≡ old.items → ((n : ℕ) → IsPrepared old.prepared n → IsPrepared new.prepared n)
+    → c.number < length old.items → IsPrepared new.prepared c.number → HaveRows cs old → HaveRows (cs ++ c ∷ []) new
+one_more_ready old new cs c same kept below is h =
+    all_both (IsReady new) cs (c ∷ []) (kept_ready old new cs same kept h) ((omega (arith, below, ap length same), is), tt)
+
+-- the change at a place
+pub below_at : (cs : List Change) (most i : ℕ) (c : Change) → i < length cs → c ≡ get_or cs i c → AreBelow cs most → c.number < most
+below_at [] most i c within is h = absurd (omega (arith, within))
+below_at (d ∷ cs) most zero c within is h = subst (λ (e : Change). e.number < most) (sym is) h.0
+below_at (d ∷ cs) most (suc i) c within is h = below_at cs most i c (omega (arith, within)) is h.1

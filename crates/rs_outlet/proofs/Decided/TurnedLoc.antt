@@ -9,7 +9,7 @@ use Rattle.rs_octets.specs.Prefixes.{Prefix}
 use Rattle.rs_attrs.specs.Meaning.{Attribute}
 use Rattle.rs_adjin.specs.declared.adj_ins.AdjIns.{AdjIns}
 use Rattle.rs_adjin.specs.AdjIns.{number_of}
-use Rattle.rs_outlet.specs.declared.rows.Row.{Row}
+use Rattle.rs_rows.specs.Rows.{Row}
 use Rattle.rs_outlet.specs.declared.changes.Change.{Change}
 use Rattle.rs_outlet.specs.Views.{HaveNumbers, IsOneOf, is_touched}
 use Rattle.rs_outlet.specs.Inside.{AreDecided, AreFresh, ArePlaced, attributes_at, is_changed, loc_of, numbers_from, numbers_of}

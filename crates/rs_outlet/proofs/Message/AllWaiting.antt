@@ -11,13 +11,12 @@ use Rattle.std.proofs.lemmas.List.Elements.{All-from_all_within, recursion_from_
 use Rattle.std.specs.FinMap as fin
 use Rattle.std.specs.FinMap.Entries.{put, by_order}
 use Rattle.rs_octets.specs.Prefixes.{Prefix, prefix_order}
-use Rattle.std.specs.Arc.{arc_value}
 use Rattle.rs_attrs.specs.Meaning.{Attribute}
 use Rattle.rs_attrs.specs.Comparing.{attributes_hash, same_attributes}
 use Rattle.rs_attrs.specs.ComparisonLaws.{attributes_decides}
 use Rattle.rs_adjin.specs.declared.adj_ins.AdjIns.{AdjIns}
 use Rattle.rs_adjin.specs.AdjIns.{number_of}
-use Rattle.rs_outlet.specs.declared.rows.Row.{Row}
+use Rattle.rs_rows.specs.Rows.{Row}
 use Rattle.rs_outlet.specs.declared.waiting.Due.{Due}
 use Rattle.rs_outlet.specs.declared.waiting.Due.TheVariants as due
 use Rattle.rs_outlet.specs.declared.waiting.Wait.{Wait}
@@ -145,10 +144,10 @@ pub not_hashed : (rows : List (Option Row)) (p : Prefix) (d : Due) (m : List Att
 not_hashed rows p d m number hash is differs =
     subst (λ (d : Due). IsBacked rows p d → false ≡ has_attributes (shown (row_by rows d)) m) is (λ backed. go (row_at rows number) backed)
   where
-    alike : (r : Row) → option_map prefix_and_hash (Some r) ≡ Some (p, hash) → (b : Bool) → same_attributes (arc_value r.attrs) m ≡ b → false ≡ b
+    alike : (r : Row) → option_map prefix_and_hash (Some r) ≡ Some (p, hash) → (b : Bool) → same_attributes r.attributes m ≡ b → false ≡ b
     alike r is false e = refl
-    alike r is true e = absurd (differs (sym (ap (λ (e : Prefix × ℕ). e.1) (same_Some (prefix_and_hash r) (p, hash) is)) ∙ ap attributes_hash ((attributes_decides (arc_value r.attrs) m).0 e)))
+    alike r is true e = absurd (differs (sym (ap (λ (e : Prefix × ℕ). e.1) (same_Some (prefix_and_hash r) (p, hash) is)) ∙ ap attributes_hash ((attributes_decides r.attributes m).0 e)))
 
     go : (o : Option Row) → option_map prefix_and_hash o ≡ Some (p, hash) → false ≡ has_attributes (shown o) m
     go None is = refl
-    go (Some r) is = alike r is (same_attributes (arc_value r.attrs) m) refl
+    go (Some r) is = alike r is (same_attributes r.attributes m) refl

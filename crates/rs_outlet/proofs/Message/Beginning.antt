@@ -15,7 +15,7 @@ use Rattle.rs_adjin.specs.AdjIns.{number_of}
 use Rattle.rs_open.specs.Notes.{limit_octets}
 use Rattle.rs_packer.specs.declared.packed.Packed.{Packed}
 use Rattle.rs_outlet.specs.declared.answers.Speech.{Speech}
-use Rattle.rs_outlet.specs.declared.rows.Row.{Row}
+use Rattle.rs_rows.specs.Rows.{Row}
 use Rattle.rs_outlet.specs.declared.waiting.Wait.{Wait}
 use Rattle.rs_outlet.specs.Views.{View, AreNumbered, HaveNumbers}
 use Rattle.rs_outlet.specs.Pending.Slots.{open_at, rising, told_by, marked_told, is_withdrawal, is_withdrawn}

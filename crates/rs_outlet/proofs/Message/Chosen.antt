@@ -5,7 +5,6 @@ use mathlib.Core.Bool.{true≢false}
 use Rattle.std.specs.List.{list_any}
 use Rattle.rs_octets.specs.Prefixes.{Prefix, IsIpv4Prefix}
 use Rattle.rs_attrs.specs.Meaning.{Attribute}
-use Rattle.std.specs.Arc.{arc_value}
 use Rattle.std.proofs.Math.Bool.{or-false}
 use Rattle.std.proofs.lemmas.Bool.{and_parts}
 use Rattle.std.proofs.lemmas.List.{get_or_default}
@@ -13,7 +12,7 @@ use Rattle.rs_open.specs.Notes.{limit_octets}
 use Rattle.rs_packer.specs.Packed.{announcement}
 use Rattle.rs_outlet.specs.declared.answers.Speech.{Speech}
 use Rattle.rs_outlet.specs.Inside.{AreBacked, FitsAlone, IsBacked, RowsFit, prefix_and_hash, row_by}
-use Rattle.rs_outlet.specs.declared.rows.Row.{Row}
+use Rattle.rs_rows.specs.Rows.{Row}
 use Rattle.rs_outlet.specs.declared.waiting.Due.{Due}
 use Rattle.rs_outlet.specs.declared.waiting.Due.TheVariants as due
 use Rattle.rs_outlet.specs.declared.waiting.Wait.{Wait}
@@ -164,7 +163,7 @@ first_fits speech rows ws m [] (p ∷ ps) fit are some = absurd are
 first_fits speech rows ws m (n ∷ ns) [] fit are some = absurd are
 first_fits speech rows ws m (n ∷ ns) (p ∷ ps) fit are some =
     let r = are.0.is.1 in
-    subst (FitsAlone speech p) r.attributes (subst (λ q. FitsAlone speech q (arc_value r.row.attrs)) r.prefix (fit r.number r.row r.at))
+    subst (FitsAlone speech p) r.attributes (subst (λ q. FitsAlone speech q r.row.attributes) r.prefix (fit r.number r.row r.at))
 
 -- ---- where nothing is to be withdrawn or announced, nothing waits
 
@@ -209,5 +208,5 @@ module _ (rows : List (Option Row)) (ws : List Wait) (n : ℕ) (w : Wait) (apart
   pub first_row : None ≡ row_by rows w.due → ⊥
   first_row none = has_row rows w.prefix w.due here_backed (news_of w is).1 (sym none)
 
-  pub first_waits : (m : List Attribute) → option_map (λ (r : Row). arc_value r.attrs) (row_by rows w.due) ≡ Some m → WaitsFor rows m w
+  pub first_waits : (m : List Attribute) → option_map (λ (r : Row). r.attributes) (row_by rows w.due) ≡ Some m → WaitsFor rows m w
   first_waits m value = record { opened = (news_of w is).0; backed = here_backed; said = value }

@@ -1,7 +1,6 @@
 -- The prefixes of a message rise, and the first of them is the least that waits for the like.
 use Rattle.std.proofs.Common.{◌≡◌, ◌≢◌, ◌<◌, ℕ, zero, suc, Bool, true, false, not, ◌&&◌, Option, None, Some, List, [], ◌∷◌, length, take, get_or, refl, sym, ap, ◌∙◌, subst, arith, inl, inr}
 use Rattle.std.specs.Prelude.{is_none, option_map, slice_get}
-use Rattle.std.specs.Arc.{arc_value}
 use Rattle.std.specs.List.{AllByRecursion}
 use Rattle.std.specs.List.Sorted.{IsStrictlySortedBy}
 use Rattle.std.specs.Ordering.{ordering_reverse}
@@ -14,7 +13,7 @@ use Rattle.rs_octets.specs.Prefixes.{Prefix, prefix_order}
 use Rattle.rs_attrs.specs.Meaning.{Attribute}
 use Rattle.rs_attrs.specs.ComparisonLaws.{attributes_decides}
 use Rattle.rs_adjin.proofs.Listed.{prefixes_total, exact_prefixes}
-use Rattle.rs_outlet.specs.declared.rows.Row.{Row}
+use Rattle.rs_rows.specs.Rows.{Row}
 use Rattle.rs_outlet.specs.declared.waiting.Due.{Due}
 use Rattle.rs_outlet.specs.declared.waiting.Due.TheVariants as due
 use Rattle.rs_outlet.specs.declared.waiting.Wait.{Wait}
@@ -89,7 +88,7 @@ shared_announced rows m w is = go w.open w.due is
 waits_shares : (rows : List (Option Row)) (m : List Attribute) (w : Wait) → WaitsFor rows m w → shares rows m w ≡ true
 waits_shares rows m w is = (λ i. is.opened i && has_attributes (value (row_by rows w.due) is.said i) m) ∙ (attributes_decides m m).1 refl
   where
-    value : (o : Option Row) → option_map (λ (r : Row). arc_value r.attrs) o ≡ Some m → shown o ≡ Some m
+    value : (o : Option Row) → option_map (λ (r : Row). r.attributes) o ≡ Some m → shown o ≡ Some m
     value None h = absurd (let f : ◌≡◌ {A = Option (List Attribute)} None (Some m) = h in cc)
     value (Some r) h = h
 

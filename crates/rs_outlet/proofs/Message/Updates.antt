@@ -7,7 +7,7 @@ use Rattle.rs_open.specs.Notes.{limit_octets}
 use Rattle.rs_packer.specs.Packed.{IsLongestFront, announcement, withdrawal}
 use Rattle.rs_packer.specs.declared.packed.Packed.{Packed}
 use Rattle.rs_outlet.specs.declared.answers.Speech.{Speech}
-use Rattle.rs_outlet.specs.declared.rows.Row.{Row}
+use Rattle.rs_rows.specs.Rows.{Row}
 use Rattle.rs_outlet.specs.declared.waiting.Wait.{Wait}
 use Rattle.rs_outlet.specs.Pending.Slots.{AreApart, is_announced, is_withdrawn, rising}
 use Rattle.rs_outlet.specs.Pending.Choosing.{AreChosen, IsLeastOf, MayUpdate, NoneWithdrawn, WaitsFor, passing, shares}

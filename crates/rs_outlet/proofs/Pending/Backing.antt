@@ -17,7 +17,7 @@ use Rattle.rs_packer.specs.Packed.{announcement}
 use Rattle.rs_outlet.specs.Decided.Due.{Held, due_to, holders_at, if_fits, ranks_among, route_from}
 use Rattle.rs_outlet.specs.declared.answers.Speech.{Speech}
 use Rattle.rs_outlet.specs.declared.changes.Change.{Change}
-use Rattle.rs_outlet.specs.declared.rows.Row.{Row}
+use Rattle.rs_rows.specs.Rows.{Row}
 use Rattle.rs_outlet.specs.declared.waiting.Due.{Due}
 use Rattle.rs_outlet.specs.declared.waiting.Due.TheVariants as due
 use Rattle.rs_outlet.specs.declared.waiting.Wait.{Wait}
@@ -39,7 +39,7 @@ module _ (rows : List (Option Row)) (n : ℕ) (x : Option Row) where
   pub this_row : n < length rows → row_at (slice_set rows n x) n ≡ x
   this_row below = let y = some_row rows n x below in ap joined (set_here rows n x y.0 y.1)
 
-  pub fit_set : (speech : Speech) → n < length rows → ((r : Row) → x ≡ Some r → FitsAlone speech r.prefix (arc_value r.attrs)) → RowsFit speech rows → RowsFit speech (slice_set rows n x)
+  pub fit_set : (speech : Speech) → n < length rows → ((r : Row) → x ≡ Some r → FitsAlone speech r.prefix r.attributes) → RowsFit speech rows → RowsFit speech (slice_set rows n x)
   fit_set speech below new fit m r is = elim (cases_eq m n) [
     | inl e ↦ new r (sym (this_row below) ∙ subst (λ k. row_at (slice_set rows n x) k ≡ Some r) e is)
     | inr ne ↦ fit m r (sym (other_row m ne) ∙ is)

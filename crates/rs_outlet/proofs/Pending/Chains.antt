@@ -1,7 +1,6 @@
 -- Chains of slots: how they come of slots that are in order, and what leaves them as they are.
 use Rattle.std.proofs.Common.{◌≡◌, ◌≢◌, ◌<◌, ◌≤◌, ◌==◌, ℕ, zero, suc, Bool, true, false, ◌&&◌, not, cond, Option, None, Some, List, [], ◌∷◌, ◌++◌, length, slice_set, take, refl, sym, ap, ◌∙◌, subst, arith, inl, inr}
 use Rattle.std.specs.Prelude.{◌⊎◌, option_map, slice_get}
-use Rattle.std.specs.Arc.{arc_value}
 use Rattle.std.specs.List.{AllWithin, Contains}
 use Rattle.std.specs.List.Sorted.{IsPermutation}
 use Rattle.std.specs.Ordering.{is_eq}
@@ -16,7 +15,7 @@ use Rattle.rs_attrs.specs.Meaning.{Attribute}
 use Rattle.rs_attrs.specs.Comparing.{attributes_cmp, attributes_hash, same_attributes}
 use Rattle.rs_attrs.specs.ComparisonLaws.{attributes_cmp_decides, attributes_cmp_total, attributes_decides}
 use Rattle.rs_adjin.proofs.TableRows.{set_apart, set_here, some_row}
-use Rattle.rs_outlet.specs.declared.rows.Row.{Row}
+use Rattle.rs_rows.specs.Rows.{Row}
 use Rattle.rs_outlet.specs.declared.waiting.Due.{Due}
 use Rattle.rs_outlet.specs.declared.waiting.Due.TheVariants as due
 use Rattle.rs_outlet.specs.declared.waiting.Wait.{Wait}
@@ -223,7 +222,7 @@ module _ (a : Keyed → List Attribute) where
 
 pub hash_by : (o : Option Row) (p : Prefix) (hash : ℕ) (m : List Attribute) → option_map prefix_and_hash o ≡ Some (p, hash) → shown o ≡ Some m → attributes_hash m ≡ hash
 hash_by None p hash m backed is = absurd (cc)
-hash_by (Some r) p hash m backed is = ap attributes_hash (sym (same_Some (arc_value r.attrs) m is)) ∙ ap (λ (e : Prefix × ℕ). e.1) (same_Some (prefix_and_hash r) (p, hash) backed)
+hash_by (Some r) p hash m backed is = ap attributes_hash (sym (same_Some r.attributes m is)) ∙ ap (λ (e : Prefix × ℕ). e.1) (same_Some (prefix_and_hash r) (p, hash) backed)
 
 -- what is due at a slot that has its row has the hash that the slot says
 pub backed_hash : (rows : List (Option Row)) (p : Prefix) (d : Due) (m : List Attribute) → IsBacked rows p d → shown (row_by rows d) ≡ Some m → hash_of d ≡ Some (attributes_hash m)

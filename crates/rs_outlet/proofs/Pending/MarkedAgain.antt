@@ -7,13 +7,12 @@ use Rattle.std.specs.List.{All, AllByRecursion, Contains, dedup, list_any}
 use Rattle.std.specs.List.Sorted.{IsBinarySearchResult, IsSearchInRange, IsStrictlySortedBy}
 use Rattle.std.specs.declared.cmp.Ordering.TheVariants.{Equal, Less}
 use Rattle.std.specs.FinMap as fin
-use Rattle.std.specs.Arc.{arc_value}
 use Rattle.std.proofs.lemmas.List.{take-append-le}
 use Rattle.std.proofs.lemmas.List.Elements.{All-contains, All-contains_itself, All-from_recursion, All-push, recursion_from_All}
 use Rattle.std.proofs.lemmas.Bool.{and_parts, or_parts, or_right}
 use Rattle.std.proofs.lemmas.Option.{same_Some}
 use Rattle.rs_octets.specs.Prefixes.{Prefix, prefix_order}
-use Rattle.rs_outlet.specs.declared.rows.Row.{Row}
+use Rattle.rs_rows.specs.Rows.{Row}
 use Rattle.rs_outlet.specs.declared.waiting.Wait.{Wait}
 use Rattle.rs_outlet.specs.Views.{Table}
 use Rattle.rs_outlet.specs.Pending.Slots.{is_withdrawal, open_at, prefixes_at, still_open}
@@ -149,15 +148,15 @@ row_due [] n r is = absurd (cc)
 row_due (None ∷ rows) zero r is = absurd (cc)
 row_due (None ∷ rows) (suc n) r is = row_due rows n r is
 row_due (Some x ∷ rows) zero r is =
-    subst IsSome (sym (fin.get-insert prefixes_total (loc_of rows) x.prefix (arc_value x.attrs) r.prefix)) (here (same r.prefix x.prefix) (ap (λ (t : Row). same r.prefix t.prefix) (same_Some x r is) ∙ same_itself r.prefix))
+    subst IsSome (sym (fin.get-insert prefixes_total (loc_of rows) x.prefix x.attributes r.prefix)) (here (same r.prefix x.prefix) (ap (λ (t : Row). same r.prefix t.prefix) (same_Some x r is) ∙ same_itself r.prefix))
   where
-    here : (b : Bool) → b ≡ true → IsSome (cond b (Some (arc_value x.attrs)) (fin.get (loc_of rows) r.prefix))
+    here : (b : Bool) → b ≡ true → IsSome (cond b (Some x.attributes) (fin.get (loc_of rows) r.prefix))
     here true h = refl
     here false h = absurd (true≢false (sym h))
 row_due (Some x ∷ rows) (suc n) r is =
-    subst IsSome (sym (fin.get-insert prefixes_total (loc_of rows) x.prefix (arc_value x.attrs) r.prefix)) (there (same r.prefix x.prefix) (row_due rows n r is))
+    subst IsSome (sym (fin.get-insert prefixes_total (loc_of rows) x.prefix x.attributes r.prefix)) (there (same r.prefix x.prefix) (row_due rows n r is))
   where
-    there : (b : Bool) → IsSome (fin.get (loc_of rows) r.prefix) → IsSome (cond b (Some (arc_value x.attrs)) (fin.get (loc_of rows) r.prefix))
+    there : (b : Bool) → IsSome (fin.get (loc_of rows) r.prefix) → IsSome (cond b (Some x.attributes) (fin.get (loc_of rows) r.prefix))
     there true h = refl
     there false h = h
 

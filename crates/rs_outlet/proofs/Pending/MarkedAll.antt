@@ -6,14 +6,13 @@ use Rattle.std.specs.List.{All, AllByRecursion, Contains, list_any}
 use Rattle.std.specs.List.Sorted.{IsStrictlySortedBy}
 use Rattle.std.specs.declared.cmp.Ordering.TheVariants.{Less}
 use Rattle.std.specs.FinMap as fin
-use Rattle.std.specs.Arc.{arc_value}
 use Rattle.std.proofs.lemmas.List.Elements.{All-contains, All-contains_itself, recursion_from_All}
 use Rattle.std.proofs.lemmas.List.Sums.{sum_by-cons, sum_by-append, sum_by-drop_more, sum_by-le-sum_by}
 use Rattle.std.proofs.Math.Bool.{and-false}
 use Rattle.std.proofs.lemmas.Option.{same_Some}
 use Rattle.std.proofs.lemmas.Bool.{cases_eq}
 use Rattle.rs_octets.specs.Prefixes.{Prefix, prefix_order}
-use Rattle.rs_outlet.specs.declared.rows.Row.{Row}
+use Rattle.rs_rows.specs.Rows.{Row}
 use Rattle.rs_outlet.specs.declared.waiting.Due.{Due}
 use Rattle.rs_outlet.specs.declared.waiting.Due.TheVariants as due
 use Rattle.rs_outlet.specs.declared.waiting.Wait.{Wait}
@@ -54,9 +53,9 @@ row_behind x rows p r = record { number = suc r.number; row = r.row; at = r.at; 
 pub due_row : (rows : List (Option Row)) (p : Prefix) → IsSome (fin.get (loc_of rows) p) → RowOf rows p
 due_row [] p h = absurd (true≢false (sym h ∙ ap is_some (fin.get-empty prefix_order p)))
 due_row (None ∷ rows) p h = row_behind None rows p (due_row rows p h)
-due_row (Some x ∷ rows) p h = go (same p x.prefix) refl (subst IsSome (fin.get-insert prefixes_total (loc_of rows) x.prefix (arc_value x.attrs) p) h) (λ k. due_row rows p k)
+due_row (Some x ∷ rows) p h = go (same p x.prefix) refl (subst IsSome (fin.get-insert prefixes_total (loc_of rows) x.prefix x.attributes p) h) (λ k. due_row rows p k)
   where
-    go : (b : Bool) → same p x.prefix ≡ b → IsSome (cond b (Some (arc_value x.attrs)) (fin.get (loc_of rows) p)) → (IsSome (fin.get (loc_of rows) p) → RowOf rows p) → RowOf (Some x ∷ rows) p
+    go : (b : Bool) → same p x.prefix ≡ b → IsSome (cond b (Some x.attributes) (fin.get (loc_of rows) p)) → (IsSome (fin.get (loc_of rows) p) → RowOf rows p) → RowOf (Some x ∷ rows) p
     go true s h rest = record { number = 0; row = x; at = refl; prefix = sym (same_is p x.prefix s); within = omega arith }
     go false s h rest = row_behind (Some x) rows p (rest h)
 

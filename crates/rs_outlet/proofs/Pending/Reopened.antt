@@ -9,7 +9,7 @@ use Rattle.std.proofs.lemmas.Option.{get_or_from_slice_get, same_Some, slice_get
 use Rattle.std.proofs.Math.Bool.{and-false}
 use Rattle.rs_octets.specs.Prefixes.{Prefix, prefix_order}
 use Rattle.rs_attrs.specs.Meaning.{Attribute}
-use Rattle.rs_outlet.specs.declared.rows.Row.{Row}
+use Rattle.rs_rows.specs.Rows.{Row}
 use Rattle.rs_outlet.specs.declared.waiting.Wait.{Wait}
 use Rattle.rs_outlet.specs.Inside.{AreBacked, IsBacked, loc_of, prefix_and_hash, row_at}
 use Rattle.rs_outlet.specs.Pending.Slots.{AreApart, is_withdrawal, is_withdrawn, open_at, open_count, prefixes_at, waits_there, withdrawn_count}

@@ -1,17 +1,18 @@
 -- How many slots are to be withdrawn, and how many rows have a route, as they are written.
-use Rattle.std.proofs.Common.{◌≡◌, ◌≤◌, ◌<◌, ◌+◌, ℕ, zero, suc, Bool, true, false, cond, ◌&&◌, Option, None, Some, List, [], ◌∷◌, ◌++◌, length, get_or, slice_set, refl, ap, ◌∙◌, arith}
+use Rattle.std.proofs.Common.{◌≡◌, ◌≤◌, ◌<◌, ◌+◌, ℕ, zero, suc, Bool, true, false, cond, ◌&&◌, Option, None, Some, List, [], ◌∷◌, ◌++◌, length, get_or, slice_set, refl, sym, ap, ◌∙◌, arith}
 use Rattle.std.specs.Prelude.{IfSome, is_some, count_by}
 use Rattle.std.specs.List.{dedup, dedup_from, sum_by}
 use Rattle.std.specs.List.Sorted.{IsPermutation}
 use Rattle.std.proofs.lemmas.List.Sorted.{sum_by-IsPermutation}
 use Rattle.std.proofs.lemmas.List.Sums.{sum_by-append, sum_by-cons, sum_by-le-sum_by, sum_by-set}
 use Rattle.std.proofs.Math.Bool.{and-false}
-use Rattle.rs_outlet.specs.declared.rows.Row.{Row}
+use Rattle.rs_rows.specs.Rows.{Row}
 use Rattle.rs_outlet.specs.declared.waiting.Due.TheVariants as due
 use Rattle.rs_outlet.specs.declared.waiting.Wait.{Wait}
 use Rattle.rs_outlet.specs.Pending.Slots.{is_withdrawal, is_withdrawn, open_count, still_open, withdrawn_count}
 use Rattle.rs_outlet.specs.Pending.Owed.{listed}
-use Rattle.rs_outlet.specs.Inside.{row_at}
+use Rattle.rs_attrs.specs.Meaning.{Attribute}
+use Rattle.rs_outlet.specs.Inside.{row_at, shown}
 
 abbrev pub one_if : Bool → ℕ
 one_if b = cond b 1 0
@@ -27,11 +28,28 @@ row_get [] k below = absurd (omega (arith, below))
 row_get (x ∷ rows) zero below = refl
 row_get (x ∷ rows) (suc k) below = row_get rows k (omega (arith, below))
 
+-- no more of them have a route than there are
+pub rows_at_most : (rows : List (Option Row)) → count_by is_some rows ≤ length rows
+rows_at_most [] = omega arith
+rows_at_most (r ∷ rows) = omega (arith, rows_at_most rows, one_at_most (is_some r), sum_by-cons (λ (o : Option Row). one_if (is_some o)) r rows)
+
 -- a route in a free row
 pub one_more_row : (rows : List (Option Row)) (n : ℕ) (row : Row) → n < length rows → row_at rows n ≡ None → count_by is_some (slice_set rows n (Some row)) ≡ count_by is_some rows + 1
 one_more_row rows n row below free =
     let was : ◌≡◌ {A = ℕ} (one_if (is_some (get_or rows n None))) 0 = ap (λ r. one_if (is_some r)) (row_get rows n below ∙ free) in
     omega (arith, was, sum_by-set (λ (r : Option Row). one_if (is_some r)) rows n (Some row) None below)
+
+shown_some : (o : Option Row) → is_some (shown o) ≡ is_some o
+shown_some None = refl
+shown_some (Some r) = refl
+
+-- a row that is free now, of which this was taken
+pub row_taken : (rows : List (Option Row)) (n : ℕ) (was : Option (List Attribute)) → n < length rows → was ≡ shown (row_at rows n) → count_by is_some (slice_set rows n None) + one_if (is_some was) ≡ count_by is_some rows
+row_taken rows n was below is =
+    let none : Option Row = None in
+    let there : is_some (get_or rows n none) ≡ is_some was = ap is_some (row_get rows n below) ∙ sym (shown_some (row_at rows n)) ∙ sym (ap is_some is) in
+    let taken : ◌≡◌ {A = ℕ} (one_if (is_some (get_or rows n none))) (one_if (is_some was)) = ap one_if there in
+    omega (arith, taken, sum_by-set (λ (r : Option Row). one_if (is_some r)) rows n none none below)
 
 row_erased : (rows : List (Option Row)) (n : ℕ) → row_at (slice_set rows n None) n ≡ None
 row_erased [] zero = refl

@@ -3,7 +3,6 @@ use Rattle.std.specs.Prelude.{◌≡◌, ◌≢◌, ◌⊎◌, ℕ, ◌≤◌, �
 use Rattle.std.specs.List.{AllWithin, filter}
 use Rattle.std.specs.Global.{Global}
 use Rattle.std.specs.Vec.{vec_capacity}
-use Rattle.std.specs.Arc.{arc_value}
 use Rattle.std.specs.declared.cmp.Ordering.TheVariants.{Less}
 use Rattle.rs_octets.specs.Prefixes.{Prefix, IsIpv4Prefix, prefix_order}
 use Rattle.rs_attrs.specs.Meaning.{Attribute}
@@ -12,7 +11,7 @@ use Rattle.rs_open.specs.Notes.{limit_octets}
 use Rattle.rs_packer.specs.Packed.{announcement, withdrawal}
 use Rattle.rs_packer.specs.declared.packed.Packed.{Packed}
 use Rattle.rs_outlet.specs.declared.answers.Speech.{Speech}
-use Rattle.rs_outlet.specs.declared.rows.Row.{Row}
+use Rattle.rs_rows.specs.Rows.{Row}
 use Rattle.rs_outlet.specs.declared.waiting.Wait.{Wait}
 use Rattle.rs_outlet.specs.Pending.Slots.{prefixes_at, open_at, is_announced, is_withdrawal, is_withdrawn, rising}
 use Rattle.rs_outlet.specs.Inside.{IsBacked, row_at, row_by, shown}
@@ -54,7 +53,7 @@ pub record HasRow (rows : List (Option Row)) (p : Prefix) (m : List Attribute) :
   pub row : Row
   pub at : row_at rows number ≡ Some row
   pub prefix : row.prefix ≡ p
-  pub attributes : arc_value row.attrs ≡ m
+  pub attributes : row.attributes ≡ m
 
 -- what is to be said of a prefix that waits: that it is withdrawn, or these attributes
 abbrev pub IsSaid : List (Option Row) → Prefix → Wait → Option (List Attribute) → Type 0
@@ -139,7 +138,7 @@ NoneOpen ws = (q : Prefix) → open_at q ws ≡ None
 pub record WaitsFor (rows : List (Option Row)) (m : List Attribute) (w : Wait) : Type 0 where
   pub opened : w.open ≡ true
   pub backed : IsBacked rows w.prefix w.due
-  pub said : option_map (λ r. arc_value r.attrs) (row_by rows w.due) ≡ Some m
+  pub said : option_map (λ r. r.attributes) (row_by rows w.due) ≡ Some m
 
 -- nothing was written, which is so only where nothing waits, or an UPDATE
 abbrev pub MayUpdate : Speech → List (Option Row) → List Wait → List ℕ → List Prefix → List ℕ → Packed → Type 0

@@ -3,8 +3,7 @@ use Rattle.std.specs.Prelude.{◌≡◌, ◌⊎◌, ℕ, Bool, true, false, Opti
 use Rattle.std.specs.FinMap as fin
 use Rattle.rs_attrs.specs.Meaning.{Attribute}
 use Rattle.rs_attrs.specs.Comparing.{attributes_hash}
-use Rattle.rs_outlet.specs.declared.rows.Row.{Row}
-use Rattle.std.specs.Arc.{arc_value}
+use Rattle.rs_rows.specs.Rows.{Row}
 use Rattle.rs_outlet.specs.declared.waiting.Due.TheVariants as due
 use Rattle.rs_outlet.specs.declared.waiting.Told.{Told}
 use Rattle.rs_outlet.specs.declared.waiting.Told.TheVariants as told
@@ -43,7 +42,7 @@ pub record IsRowAdded (base : List Wait) (number : ℕ) (row : Row) (old new : L
   pub wait : Wait
   pub prefix : wait.prefix ≡ row.prefix
   pub opened : wait.open ≡ true
-  pub due : wait.due ≡ due.Announced number (attributes_hash (arc_value row.attrs))
+  pub due : wait.due ≡ due.Announced number (attributes_hash row.attributes)
   pub told : wait.told ≡ told.Same
   pub marked : wait.marked ≡ true
   pub alone : open_at row.prefix base ≡ None
@@ -56,7 +55,7 @@ MayAddRow base number row old new = (new ≡ old) ⊎ IsRowAdded base number row
 pub record IsOfRow (number : ℕ) (row : Row) (z : Wait) : Type 0 where
   pub prefix : z.prefix ≡ row.prefix
   pub opened : z.open ≡ true
-  pub due : z.due ≡ due.Announced number (attributes_hash (arc_value row.attrs))
+  pub due : z.due ≡ due.Announced number (attributes_hash row.attributes)
   pub told : z.told ≡ told.Same
   pub marked : z.marked ≡ true
 

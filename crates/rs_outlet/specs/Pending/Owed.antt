@@ -7,7 +7,7 @@ use Rattle.rs_attrs.specs.Meaning.{Attribute}
 use Rattle.rs_outlet.specs.declared.changes.Change.{Change}
 use Rattle.rs_outlet.specs.declared.waiting.Told.{Told}
 use Rattle.rs_outlet.specs.declared.waiting.Wait.{Wait}
-use Rattle.rs_outlet.specs.declared.rows.Row.{Row}
+use Rattle.rs_rows.specs.Rows.{Row}
 use Rattle.rs_outlet.specs.Inside.{IsBacked}
 use Rattle.rs_outlet.specs.Views.{waits_at}
 use Rattle.rs_outlet.specs.Pending.Slots.{is_withdrawal, open_at, told_of, told_by, marked_by, marked_told}

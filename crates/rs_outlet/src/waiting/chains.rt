@@ -15,7 +15,7 @@ ghost use Rattle.std.specs.Vec.{vec_capacity};
 ghost use Rattle.rs_attrs.specs.Meaning.{Attribute};
 ghost use Rattle.rs_adjin.specs.AdjIns.{set_of};
 ghost use Rattle.rs_attrs.specs.Comparing.{attributes_cmp, attributes_hash};
-ghost use Rattle.rs_outlet.specs.declared.rows.Row.{Row};
+ghost use Rattle.rs_rows.specs.Rows.{Row};
 ghost use Rattle.rs_outlet.specs.declared.waiting.Wait.{Wait};
 ghost use Rattle.rs_outlet.specs.Inside.{AreBacked, AreChained, row_at, row_by, shown};
 ghost use Rattle.rs_outlet.specs.Pending.Slots.{AreByHash, hash_of};

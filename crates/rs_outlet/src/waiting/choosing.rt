@@ -6,19 +6,19 @@ ghost use Rattle.std.specs.Ordering.{eq_by_cmp};
 ghost use Rattle.std.specs.Vec.{vec_capacity};
 ghost use Rattle.rs_octets.specs.Prefixes.{Prefix, prefix_order};
 ghost use Rattle.rs_attrs.specs.Meaning.{Attribute};
-ghost use Rattle.rs_outlet.specs.declared.rows.Row.{Row};
+ghost use Rattle.rs_rows.specs.Rows.{Row};
 ghost use Rattle.rs_outlet.specs.declared.waiting.Wait.{Wait};
 ghost use Rattle.rs_outlet.specs.Pending.Slots.{IsShut, open_at, is_withdrawal, is_withdrawn, is_announced, rising, withdrawn_count};
 ghost use Rattle.rs_outlet.specs.Pending.Choosing.{HasRow, HaveRoom, IsChosen, IsLeast, IsLesser, AreChosen, WaitsFor, passing, shares};
 ghost use Rattle.rs_outlet.specs.Inside.{AreBacked, AreChained, IsBacked, row_by, shown};
 ghost use Rattle.rs_outlet.specs.Message.Next.{has_attributes};
-ghost use Rattle.rs_outlet.specs.Places.{lent_row};
+ghost use Rattle.rs_rows.specs.Places.{lent_row};
 
-use crate::place::Lent;
 use crate::table::Rows;
 use crate::waiting::{Due, Wait, Waits};
 use rs_attrs::Attrs;
 use rs_octets::Prefix;
+use rs_rows::Lent;
 use std::cmp::Ordering;
 
 impl Waits {

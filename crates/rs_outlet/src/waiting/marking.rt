@@ -10,15 +10,15 @@ ghost use Rattle.rs_octets.specs.Prefixes.{Prefix, prefix_order};
 ghost use Rattle.rs_outlet.specs.Pending.Slots.{AreApart, open_at, prefixes_at, withdrawn_count};
 ghost use Rattle.rs_outlet.specs.Pending.Parts.{AreParts};
 ghost use Rattle.rs_outlet.specs.Inside.{AreBacked, loc_of, row_at};
-ghost use Rattle.rs_outlet.specs.declared.rows.Row.{Row};
-ghost use Rattle.rs_outlet.specs.Places.{lent_row};
+ghost use Rattle.rs_rows.specs.Rows.{Row};
+ghost use Rattle.rs_rows.specs.Places.{lent_row};
 ghost use Rattle.rs_outlet.specs.Pending.Marking.{AreReopened, IsAgain, IsOfRow, MayAddRow, MayBeReopened, MayReopen, MayWaitAgain, is_told, remarked};
 
-use crate::place::Lent;
 use crate::table::Rows;
 use crate::waiting::parts::{drop_shut, open_in};
 use crate::waiting::{Due, Told, Wait, Waits, count_open, put_in_order};
 use rs_octets::Prefix;
+use rs_rows::Lent;
 
 impl Waits {
     /// Everything that was told waits to be told again: each row, and what waits already. It takes no

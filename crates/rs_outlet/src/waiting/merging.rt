@@ -7,7 +7,7 @@ ghost use Rattle.std.specs.Vec.{vec_capacity};
 ghost use Rattle.rs_octets.specs.Prefixes.{Prefix, prefix_order};
 ghost use Rattle.rs_outlet.specs.Pending.Slots.{AreFresh, open_at, open_count, prefixes_at, withdrawn_count};
 ghost use Rattle.rs_outlet.specs.Inside.{AreBacked, AreChained};
-ghost use Rattle.rs_outlet.specs.declared.rows.Row.{Row};
+ghost use Rattle.rs_rows.specs.Rows.{Row};
 
 use crate::table::Rows;
 use crate::waiting::parts::{drop_shut, put_slots, sort_from};

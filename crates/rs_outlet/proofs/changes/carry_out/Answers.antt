@@ -10,14 +10,14 @@ use Rattle.rs_outlet.proofs.Decided.LocByNumber.{same, same_itself, numbered, lo
 use Rattle.rs_outlet.specs.Pending.Slots.{open_at}
 use Rattle.rs_outlet.proofs.OneOf.{cond_twice}
 use Rattle.rs_adjin.specs.AdjIns.{number_of}
-use Rattle.rs_outlet.specs.declared.rows.Row.{Row}
+use Rattle.rs_rows.specs.Rows.{Row}
 use Rattle.rs_outlet.proofs.Pending.Withdrawals.{announced_listed, free_row, withdrawn_listed}
 use Rattle.rs_outlet.proofs.changes.carry_out.Goals as goal
 
 pub returns-in-None-clause-loc : goal.returns-in-None-clause-loc
 returns-in-None-clause-loc c = λ ins is h q.
     let rows = c.args.rows.now.rows.items in
-    let below : c.args.change.number < length rows = omega (arith, c.requires.number, c.args.rows.now.rows.ok) in
+    let below : c.args.change.number < length rows = c.requires.number in
     ap (λ xs. fin.get (loc_of xs) q) c.take-was.ensures.rows
     ∙ loc_set ins rows c.args.change.number None below c.args.change.prefix (numbered ins rows h) is (λ r e. cc e) q
     ∙ ap (λ o. cond (same q c.args.change.prefix) (option_map arc_value o) (fin.get (loc_of rows) q)) (sym c.in-None.is)
@@ -28,8 +28,8 @@ returns-in-Some-clause-loc c = λ ins is h q.
     let n = c.args.change.number in
     let p = c.args.change.prefix in
     let mid = c.take-was.new.self.rows.items in
-    let below : n < length rows = omega (arith, c.requires.number, c.args.rows.now.rows.ok) in
-    let again : n < length mid = omega (arith, c.requires.number, c.take-was.ensures.room, c.take-was.new.self.rows.ok) in
+    let below : n < length rows = c.requires.number in
+    let again : n < length mid = omega (arith, c.requires.number, c.take-was.ensures.room) in
     let kept : HaveNumbers (numbers_from 0 mid) ins = subst (λ xs. HaveNumbers (numbers_from 0 xs) ins) (sym c.take-was.ensures.rows) (numbers_erase ins rows n h) in
     let erased = ap (λ xs. fin.get (loc_of xs) q) c.take-was.ensures.rows ∙ loc_set ins rows n None below p (numbered ins rows h) is (λ r e. cc e) q in
     ap (λ xs. fin.get (loc_of xs) q) c.put.ensures.rows
@@ -73,7 +73,7 @@ returns-in-Some-clause-others c = λ m ne.
 pub returns-in-None-clause-fit : goal.returns-in-None-clause-fit
 returns-in-None-clause-fit c = λ speech new fit.
     let rows = c.args.rows.now.rows.items in
-    let below : c.args.change.number < length rows = omega (arith, c.requires.number, c.args.rows.now.rows.ok) in
+    let below : c.args.change.number < length rows = c.requires.number in
     subst (RowsFit speech) (sym c.take-was.ensures.rows) (fit_set rows c.args.change.number None speech below (λ r e. cc) fit)
 
 pub returns-in-Some-clause-fit : goal.returns-in-Some-clause-fit
@@ -82,11 +82,11 @@ returns-in-Some-clause-fit c = λ speech new fit.
     let n = c.args.change.number in
     let mid = c.take-was.new.self.rows.items in
     let p = c.args.change.prefix in
-    let below : n < length rows = omega (arith, c.requires.number, c.args.rows.now.rows.ok) in
-    let again : n < length mid = omega (arith, c.requires.number, c.take-was.ensures.room, c.take-was.new.self.rows.ok) in
+    let below : n < length rows = c.requires.number in
+    let again : n < length mid = omega (arith, c.requires.number, c.take-was.ensures.room) in
     let due : FitsAlone speech p (arc_value c.in-Some.due) = subst (λ o. IfSome o (λ attrs. FitsAlone speech p (arc_value attrs))) c.in-Some.is new in
     subst (RowsFit speech) (sym c.put.ensures.rows)
-    (fit_set mid n _ speech again (λ r e. subst (λ (t : Row). FitsAlone speech t.prefix (arc_value t.attrs)) (same_Some _ r e) due)
+    (fit_set mid n _ speech again (λ r e. subst (λ (t : Row). FitsAlone speech t.prefix t.attributes) (same_Some _ r e) due)
     (subst (RowsFit speech) (sym c.take-was.ensures.rows) (fit_set rows n None speech below (λ r e. absurd (let f : None ≡ Some r = e in cc)) fit)))
 
 pub returns-in-None-clause-chained : goal.returns-in-None-clause-chained
@@ -119,7 +119,7 @@ pub returns-in-Some-clause-waits : goal.returns-in-Some-clause-waits
 returns-in-Some-clause-waits c =
     let n = c.args.change.number in
     let mid = c.take-was.new.self.rows.items in
-    let again : n < length mid = omega (arith, c.requires.number, c.take-was.ensures.room, c.take-was.new.self.rows.ok) in
+    let again : n < length mid = omega (arith, c.requires.number, c.take-was.ensures.room) in
     record {
       wait = c.announced_wait.result;
       owed = search rules;

@@ -1,4 +1,4 @@
-use Rattle.std.proofs.Common.{◌≡◌, ◌++◌, false, nat_eq, [], ◌∷◌, length, arith, ◌∙◌, cond, sym, ap, subst, vec_len, refl, Some}
+use Rattle.std.proofs.Common.{◌≡◌, ◌++◌, false, nat_eq, [], ◌∷◌, length, arith, ◌∙◌, cond, sym, ap, subst, refl, Some}
 use Rattle.std.specs.FinMap as fin
 use Rattle.std.specs.List.{AllByRecursion, IsDistinct, list_any}
 use Rattle.std.specs.Vec.Iter.{into_iter_items}
@@ -21,7 +21,8 @@ loop-change-init c =
     let none = c.requires.none in
     record {
       room = refl;
-      rows = subst (λ cs. HaveRows cs (vec_len c.args.rows.now.rows)) (sym are) c.requires.rows;
+      prepared = refl;
+      rows = subst (λ cs. HaveRows cs c.args.rows.now.rows) (sym are) c.requires.rows;
       placed = λ ins p. subst (λ cs. ArePlaced cs ins) (sym are) p;
       due = λ due d. subst (AreDue due) (sym are) d;
       loc = λ ins due p d h q. ap (λ cs. cond (is_changed cs q) (due q) (fin.get (loc_of c.args.rows.now.rows.items) q)) are;
@@ -49,7 +50,7 @@ loop-change-preserved c =
     let x = c.in-Some.change in
     let inv = c.loop-change.invariant in
     let are : into_iter_items c.loop-change.change-iterator ≡ x ∷ rest = c.in-Some.ensures.steps.0 in
-    let rows : HaveRows (x ∷ rest) (vec_len c.args.rows.now.rows) = subst (λ cs. HaveRows cs (vec_len c.args.rows.now.rows)) are inv.rows in
+    let rows : HaveRows (x ∷ rest) c.args.rows.now.rows = subst (λ cs. HaveRows cs c.args.rows.now.rows) are inv.rows in
     let was = c.loop-change.rows.rows.items in
     let fs = c.loop-change.fresh.items in
     let once : IsDistinct same (prefixes_of (x ∷ rest)) = subst (λ cs. IsDistinct same (prefixes_of cs)) are inv.once in
@@ -59,6 +60,7 @@ loop-change-preserved c =
     let own : AreOwn (x ∷ rest) was = subst (λ cs. AreOwn cs was) are inv.own in
     record {
       room = c.carry_out.ensures.room ∙ inv.room;
+      prepared = c.carry_out.ensures.prepared ∙ inv.prepared;
       rows = rows.1;
       placed = λ ins p. (subst (λ cs. ArePlaced cs ins) are (inv.placed ins p)).1;
       due = λ due d. (subst (AreDue due) are (inv.due due d)).1;

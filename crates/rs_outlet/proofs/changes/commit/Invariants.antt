@@ -16,8 +16,9 @@ use Rattle.rs_outlet.proofs.changes.commit.Given as goal
 
 abbrev pub invariant-loop-change : goal.invariant-loop-change
 invariant-loop-change l = record {
-  room : vec_len l.rows.rows ≡ vec_len l.fn.rows.rows;
-  rows : HaveRows (into_iter_items l.change-iterator) (vec_len l.fn.rows.rows);
+  room : length l.rows.rows.items ≡ length l.fn.rows.rows.items;
+  prepared : l.rows.rows.prepared ≡ l.fn.rows.rows.prepared;
+  rows : HaveRows (into_iter_items l.change-iterator) l.fn.rows.rows;
   placed : (ins : AdjIns) → ArePlaced l.fn.changes.items ins → ArePlaced (into_iter_items l.change-iterator) ins;
   due : (due : Prefix → Option (List Attribute)) → AreDue due l.fn.changes.items → AreDue due (into_iter_items l.change-iterator);
   loc : (ins : AdjIns) (due : Prefix → Option (List Attribute)) → ArePlaced l.fn.changes.items ins → AreDue due l.fn.changes.items → HaveNumbers (numbers_from 0 l.fn.rows.rows.items) ins → (q : Prefix)

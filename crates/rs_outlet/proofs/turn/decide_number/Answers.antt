@@ -7,8 +7,8 @@ use Rattle.rs_attrs.specs.Meaning.{Attribute}
 use Rattle.rs_outlet.specs.Decided.Due.{any_holds}
 use Rattle.rs_outlet.specs.Decided.HeldBy.{held_by}
 use Rattle.rs_outlet.specs.Inside.{attributes_at, shown}
-use Rattle.rs_outlet.specs.declared.place.Lent.{Lent}
-use Rattle.rs_outlet.specs.Places.{lent_row}
+use Rattle.rs_rows.specs.declared.place.Lent.{Lent}
+use Rattle.rs_rows.specs.Places.{lent_row}
 use Rattle.rs_outlet.proofs.Decided.Numbering.{no_elements, number_back, number_there}
 use Rattle.rs_outlet.proofs.Decided.Ranks.{due_unheld, sent}
 use Rattle.rs_outlet.proofs.turn.decide_number.Goals as goal

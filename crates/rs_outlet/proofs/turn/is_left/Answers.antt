@@ -5,8 +5,8 @@ use Rattle.std.specs.List.{list_any}
 use Rattle.rs_attrs.specs.Meaning.{Attribute}
 use Rattle.rs_outlet.specs.Decided.Due.{any_holds}
 use Rattle.rs_outlet.specs.Decided.HeldBy.{held_by}
-use Rattle.rs_outlet.specs.declared.place.Lent.{Lent}
-use Rattle.rs_outlet.specs.Places.{lent_row}
+use Rattle.rs_rows.specs.declared.place.Lent.{Lent}
+use Rattle.rs_rows.specs.Places.{lent_row}
 use Rattle.rs_outlet.proofs.Decided.Ranks.{sent}
 use Rattle.rs_outlet.proofs.turn.is_left.Goals as goal
 

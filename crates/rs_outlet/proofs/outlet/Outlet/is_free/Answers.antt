@@ -2,7 +2,7 @@ use Rattle.std.proofs.Common.{ap, sym, ◌∙◌, subst}
 use Rattle.std.specs.Prelude.{option_map}
 use Rattle.rs_outlet.specs.Views.{View}
 use Rattle.rs_outlet.specs.Inside.{IsNoNumberOf, numbers_from}
-use Rattle.rs_outlet.specs.Places.{lent_row}
+use Rattle.rs_rows.specs.Places.{lent_row}
 use Rattle.rs_outlet.proofs.Decided.Numbering.{all_both, all_front, free_number, taken_number}
 use Rattle.rs_outlet.proofs.Decided.TouchedList.{none_listed}
 use Rattle.rs_outlet.proofs.outlet.Outlet.is_free.Goals as goal

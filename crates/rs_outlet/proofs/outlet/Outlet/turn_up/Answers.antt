@@ -11,7 +11,7 @@ use Rattle.rs_adjin.specs.AdjIns.{number_of}
 use Rattle.rs_adjin.specs.declared.adj_ins.AdjIns.{AdjIns}
 use Rattle.rs_outlet.specs.declared.outlet.Outlet.TheInside.{Inside}
 use Rattle.rs_outlet.specs.declared.changes.Change.{Change}
-use Rattle.rs_outlet.specs.declared.rows.Row.{Row}
+use Rattle.rs_rows.specs.Rows.{Row}
 use Rattle.rs_outlet.specs.declared.table.Rows.{Rows}
 use Rattle.rs_outlet.specs.declared.waiting.Wait.{Wait}
 use Rattle.rs_outlet.specs.declared.waiting.Waits.{Waits}
@@ -19,13 +19,13 @@ use Rattle.rs_outlet.specs.Pending.Slots.{open_at, withdrawn_count}
 use Rattle.rs_outlet.specs.Pending.Owed.{Keeps}
 use Rattle.rs_outlet.specs.Views.{View, AreNumbered, IsCount, HaveNumbers, WaitsAreExact, is_touched, is_whole}
 use Rattle.rs_outlet.proofs.Pending.Backing.{are_backed_same, changes_fit, fit_same, fit_spoken, own_same}
-use Rattle.rs_outlet.specs.Inside.{numbers_from, loc_of, is_changed, view_of}
+use Rattle.rs_outlet.specs.Inside.{AreBelow, HaveRows, numbers_from, loc_of, is_changed, view_of}
 use Rattle.rs_outlet.specs.Decided.Touching.{stale_of, touched_of}
 use Rattle.rs_outlet.specs.Decided.Turns.{IsCurrent}
 use Rattle.rs_outlet.specs.Decided.HeldBy.{tables_of}
 use Rattle.rs_outlet.specs.declared.answers.Speech.{Speech}
 use Rattle.rs_policy.specs.Configuration.{Configuration}
-use Rattle.rs_outlet.proofs.Decided.Numbering.{all_both, have_rows, no_elements, rows_numbered, touched_numbered}
+use Rattle.rs_outlet.proofs.Decided.Numbering.{all_both, are_below, no_elements, rows_numbered, touched_numbered}
 use Rattle.rs_outlet.proofs.Pending.Carrying.{distinct_prefixes, keeps_both, keeps_same}
 use Rattle.rs_outlet.proofs.Pending.Unchanged.{asked_same, told_kept, marked_kept, exact_kept}
 use Rattle.rs_outlet.proofs.Pending.Chains.{same_chained}
@@ -35,9 +35,14 @@ use Rattle.rs_outlet.proofs.Decided.LocByNumber.{numbered}
 use Rattle.rs_outlet.proofs.Decided.TurnedLoc.{fresh_rows, one_of, stale_at, turned_at}
 use Rattle.rs_outlet.proofs.outlet.Outlet.turn_up.Goals as goal
 
+pub make_room-requires : goal.make_room-requires
+make_room-requires c =
+    let changes = c.in_ok-changes.field-0.changes in
+    subst (λ cs. AreBelow cs c.numbers-numbers.result) (sym c.deref.ensures.value)
+    (are_below changes.items c.args.sources.now.ins.now c.numbers-numbers.result c.numbers-numbers.ensures c.in_ok-changes.ensures.changes.placed)
+
 pub commit-requires-clause-rows : goal.commit-requires-clause-rows
-commit-requires-clause-rows c =
-    have_rows c.in_ok-changes.field-0.changes.items c.args.sources.now.ins.now c.numbers-numbers.result _ c.numbers-numbers.ensures c.in_ok-fresh.ensures.room c.in_ok-changes.ensures.changes.placed
+commit-requires-clause-rows c = subst (λ cs. HaveRows cs c.make_room.new.rows.rows) c.deref.ensures.value c.in_ok-fresh.ensures.room
 
 pub commit-requires-clause-once : goal.commit-requires-clause-once
 commit-requires-clause-once c =

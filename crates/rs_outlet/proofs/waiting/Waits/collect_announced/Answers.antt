@@ -1,7 +1,7 @@
 use Rattle.std.proofs.Common.{◌≡◌, ◌∙◌, ◌<◌, ◌++◌, ◌∷◌, [], Option, Some, List, arith, inl, inr, refl, true, subst, sym, vec_len}
 use Rattle.std.proofs.lemmas.Bool.{and_parts}
 use Rattle.rs_attrs.specs.Meaning.{Attribute}
-use Rattle.rs_outlet.specs.declared.rows.Row.{Row}
+use Rattle.rs_rows.specs.Rows.{Row}
 use Rattle.rs_outlet.specs.declared.waiting.Wait.{Wait}
 use Rattle.rs_outlet.specs.Inside.{IsBacked, row_by, shown}
 use Rattle.rs_outlet.specs.Message.Next.{has_attributes}

@@ -1,7 +1,7 @@
 use Rattle.std.proofs.Common.{◌≡◌, ◌+◌, ◌≤◌, [], min}
 use Rattle.std.specs.Vec.{vec_capacity}
 use Rattle.std.specs.Prelude.{List, Option, None, vec_len}
-use Rattle.rs_outlet.specs.declared.rows.Row.{Row}
+use Rattle.rs_rows.specs.Rows.{Row}
 use Rattle.rs_outlet.specs.Pending.Slots.{is_withdrawn}
 use Rattle.rs_outlet.specs.Pending.Choosing.{AreChosen}
 use Rattle.rs_outlet.proofs.Message.Collected.{AreCollected}

@@ -1,5 +1,5 @@
 use Rattle.std.proofs.Common.{◌≡◌, ◌<◌, ℕ, Some, IsSome}
-use Rattle.rs_outlet.specs.declared.rows.Row.{Row}
+use Rattle.rs_rows.specs.Rows.{Row}
 use Rattle.rs_outlet.specs.Inside.{row_at}
 use Rattle.rs_outlet.specs.Pending.Slots.{open_at}
 use Rattle.rs_outlet.proofs.waiting.Waits.has_each.Given as goal

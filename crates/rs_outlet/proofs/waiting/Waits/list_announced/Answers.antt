@@ -2,7 +2,7 @@ use Rattle.std.proofs.Common.{◌≡◌, ◌<◌, ◌∙◌, ◌++◌, ◌∷◌
 use Rattle.std.specs.List.{HoldsAt}
 use Rattle.rs_attrs.specs.Meaning.{Attribute}
 use Rattle.rs_octets.specs.Prefixes.{Prefix}
-use Rattle.rs_outlet.specs.declared.rows.Row.{Row}
+use Rattle.rs_rows.specs.Rows.{Row}
 use Rattle.rs_outlet.specs.declared.waiting.Wait.{Wait}
 use Rattle.rs_outlet.specs.Pending.Choosing.{passing, shares}
 use Rattle.rs_outlet.specs.Inside.{IsBacked, row_by, shown}

@@ -7,7 +7,7 @@ use Rattle.rs_octets.specs.Prefixes.{prefix_order}
 use Rattle.rs_outlet.specs.declared.waiting.Wait.{Wait}
 use Rattle.rs_outlet.specs.Pending.Slots.{prefixes_at, withdrawn_count}
 use Rattle.rs_outlet.specs.Inside.{IsBacked, loc_of}
-use Rattle.rs_outlet.specs.Places.{lent_row}
+use Rattle.rs_rows.specs.Places.{lent_row}
 use Rattle.rs_outlet.specs.Pending.Marking.{IsPutAgain, MayAddRow, remarked}
 use Rattle.rs_outlet.proofs.Message.Chosen.{take_past}
 use Rattle.rs_outlet.proofs.Pending.MarkedAgain.{backed_again, backed_first, marked_again, marked_first, marking_more, remarked_rise, AreMarking}
@@ -61,7 +61,7 @@ loop-slot-preserved c =
             marking = subst (λ (v : Vec Wait Global). AreMarking rows ws base n v.items) (sym w.slots-is) (marking_more rows k row ws base n xs new at first may inv.marking);
             listed = λ backed.
                 subst (λ (v : Vec Wait Global). AreListed rows base (k + 1) (vec_capacity c.args.slots.now) v.items) (sym w.slots-is)
-                (one_more_listed rows base k n (vec_capacity c.args.slots.now) row xs new (omega (arith, c.loop-slot-test.true, c.count-slot-end.ensures, c.args.rows.now.rows.ok)) at
+                (one_more_listed rows base k n (vec_capacity c.args.slots.now) row xs new (omega (arith, c.loop-slot-test.true, c.count-slot-end.ensures.rows)) at
                 (subst (AllByRecursion (λ w. w.open ≡ true)) (sym first) (still_opened ws c.requires.rises)) inv.marking.front
                 (subst (λ bs. MayAddRow bs k row xs new) inv.marking.front may)
                 (λ short. w.add_row.ensures.listed (omega (arith, short, inv.capacity, c.loop-slot.slots.ok))) (inv.listed backed));
@@ -73,7 +73,7 @@ loop-slot-preserved c =
             marking = subst (λ (v : Vec Wait Global). AreMarking rows ws base n v.items) (sym w.slots-is) inv.marking;
             listed = λ backed.
                 subst (λ (v : Vec Wait Global). AreListed rows base (k + 1) (vec_capacity c.args.slots.now) v.items) (sym w.slots-is)
-                (none_more_listed rows base k (vec_capacity c.args.slots.now) xs (omega (arith, c.loop-slot-test.true, c.count-slot-end.ensures, c.args.rows.now.rows.ok))
+                (none_more_listed rows base k (vec_capacity c.args.slots.now) xs (omega (arith, c.loop-slot-test.true, c.count-slot-end.ensures.rows))
                 (sym c.at.ensures ∙ ap (option_map lent_row) w.in_default.is) (inv.listed backed));
             withdrawn = subst (λ (v : Vec Wait Global). withdrawn_count v.items ≤ withdrawn_count ws) (sym w.slots-is) inv.withdrawn;
             capacity = ap (λ (v : Vec Wait Global). vec_capacity v) w.slots-is ∙ inv.capacity;
@@ -89,7 +89,7 @@ pub returns-clause-all : goal.returns-clause-all
 returns-clause-all c = λ backed.
     let rows = c.args.rows.now.rows.items in
     all_listed rows c.mark_told.new.slots.items c.loop-slot.slots.items c.put_in_order.new.slots.items c.loop-slot.slot (vec_capacity c.args.slots.now)
-    (omega (arith, c.loop-slot-test.false, c.count-slot-end.ensures, c.args.rows.now.rows.ok)) (c.loop-slot.invariant.listed backed) c.put_in_order.ensures.all
+    (omega (arith, c.loop-slot-test.false, c.count-slot-end.ensures.rows)) (c.loop-slot.invariant.listed backed) c.put_in_order.ensures.all
     (all_opened (loc_of rows) c.args.slots.now.items c.loop-slot.slots.items c.put_in_order.new.slots.items c.loop-slot.invariant.marking.all c.put_in_order.ensures.from)
 
 pub returns-clause-withdrawn : goal.returns-clause-withdrawn

@@ -1,0 +1,144 @@
+-- The rows of blocks, one after the other, as they are read and written.
+use Rattle.std.proofs.Common.{◌≡◌, ◌<◌, ◌≤◌, ◌+◌, ◌-◌, ◌*◌, ◌/◌, ◌%◌, ℕ, zero, suc, Bool, true, Option, None, Some, List, [], ◌∷◌, ◌++◌, get_or, length, map, replicate, set, refl, sym, ap, ◌∙◌, arith}
+use Rattle.std.specs.Prelude.{slice_get}
+use Rattle.std.specs.Arc.{arc_value}
+use Rattle.std.specs.List.{flat_map}
+use Rattle.std.proofs.lemmas.List.{append_assoc, append-nil, length-append, length-replicate, replicate-append-replicate, set-append_left, set-append_right}
+use Rattle.std.proofs.lemmas.Option.{same_Some}
+use Rattle.rs_rows.specs.Rows.{Row, row_at, joined}
+use Rattle.rs_rows.specs.Blocks.{IsGrown, free_rows, is_own, rows_in}
+use Rattle.rs_rows.specs.declared.part.Part.{Part}
+use Rattle.rs_rows.specs.declared.part.Part.TheVariants as part
+
+abbrev rows_of : List Part → List (Option Row)
+rows_of ps = flat_map rows_in ps
+
+-- ---- how many rows there are
+
+pub sixteen : (p : Part) → length (rows_in p) ≡ 16
+sixteen part.Free = let none : Option Row = None in length-replicate 16 none
+sixteen (part.Own block) = let n = block.full in omega (arith, n, block.rows.ok)
+sixteen (part.Shared block) = let b = arc_value block in let n = b.full in omega (arith, n, b.rows.ok)
+
+pub rows_length : (ps : List Part) → length (rows_of ps) ≡ length ps * 16
+rows_length [] = refl
+rows_length (p ∷ ps) = omega (arith, length-append (rows_in p) (rows_of ps), sixteen p, rows_length ps)
+
+-- ---- a row read
+
+front_get : {X : Type 0} (xs ys : List X) (n : ℕ) → n < length xs → slice_get (xs ++ ys) n ≡ slice_get xs n
+front_get [] ys n below = absurd (omega (arith, below))
+front_get (x ∷ xs) ys zero below = refl
+front_get (x ∷ xs) ys (suc n) below = front_get xs ys n (omega (arith, below))
+
+behind_get : {X : Type 0} (xs ys : List X) (m n : ℕ) → n ≡ length xs + m → slice_get (xs ++ ys) n ≡ slice_get ys m
+behind_get [] ys m n is = ap (slice_get ys) (let e : n ≡ m = omega (arith, is) in e)
+behind_get (x ∷ xs) ys m zero is = absurd (omega (arith, is))
+behind_get (x ∷ xs) ys m (suc n) is = behind_get xs ys m n (omega (arith, is))
+
+row_within : (ps : List Part) (k j n : ℕ) (p : Part) → n ≡ k * 16 + j → slice_get ps k ≡ Some p → j < 16 → row_at (rows_of ps) n ≡ row_at (rows_in p) j
+row_within [] k j n p at is below = absurd (let f : ◌≡◌ {A = Option Part} None (Some p) = is in cc)
+row_within (o ∷ ps) zero j n p at is below =
+    let here : n ≡ j = omega (arith, at) in
+    ap joined (front_get (rows_in o) (rows_of ps) n (omega (arith, here, below, sixteen o)))
+    ∙ ap (λ m. row_at (rows_in o) m) here ∙ ap (λ (q : Part). row_at (rows_in q) j) (same_Some o p is)
+row_within (o ∷ ps) (suc k) j n p at is below =
+    ap joined (behind_get (rows_in o) (rows_of ps) (n - 16) n (omega (arith, at, sixteen o))) ∙ row_within ps k j (n - 16) p (omega (arith, at)) is below
+
+row_past : (ps : List Part) (k j n : ℕ) → n ≡ k * 16 + j → slice_get ps k ≡ None → row_at (rows_of ps) n ≡ None
+row_past [] k j zero at is = refl
+row_past [] k j (suc n) at is = refl
+row_past (o ∷ ps) zero j n at is = absurd (let f : Some o ≡ None = is in cc)
+row_past (o ∷ ps) (suc k) j n at is =
+    ap joined (behind_get (rows_in o) (rows_of ps) (n - 16) n (omega (arith, at, sixteen o))) ∙ row_past ps k j (n - 16) (omega (arith, at)) is
+
+parts_of : (n : ℕ) → n ≡ n / 16 * 16 + n % 16
+parts_of n = omega arith
+
+within : (n : ℕ) → n % 16 < 16
+within n = omega arith
+
+pub row_there : (ps : List Part) (n : ℕ) (p : Part) → slice_get ps (n / 16) ≡ Some p → row_at (rows_of ps) n ≡ row_at (rows_in p) (n % 16)
+row_there ps n p is = row_within ps (n / 16) (n % 16) n p (parts_of n) is (within n)
+
+pub row_nowhere : (ps : List Part) (n : ℕ) → slice_get ps (n / 16) ≡ None → row_at (rows_of ps) n ≡ None
+row_nowhere ps n is = row_past ps (n / 16) (n % 16) n (parts_of n) is
+
+-- what an index leads to
+pub some_part : (ps : List Part) (k : ℕ) (p : Part) → k < length ps → p ≡ get_or ps k p → slice_get ps k ≡ Some p
+some_part [] k p below is = absurd (omega (arith, below))
+some_part (o ∷ ps) zero p below is = ap (λ (q : Part). Some q) (sym is)
+some_part (o ∷ ps) (suc k) p below is = some_part ps k p (omega (arith, below)) is
+
+pub no_part : (ps : List Part) (k : ℕ) → length ps ≤ k → slice_get ps k ≡ None
+no_part [] zero past = refl
+no_part [] (suc k) past = refl
+no_part (o ∷ ps) zero past = absurd (omega (arith, past))
+no_part (o ∷ ps) (suc k) past = no_part ps k (omega (arith, past))
+
+-- ---- a row written
+
+set_within : (ps : List Part) (k j n : ℕ) (p q : Part) (x : Option Row) → n ≡ k * 16 + j → slice_get ps k ≡ Some p → j < 16 → rows_in q ≡ set (rows_in p) j x → rows_of (set ps k q) ≡ set (rows_of ps) n x
+set_within [] k j n p q x at is below new = absurd (let f : ◌≡◌ {A = Option Part} None (Some p) = is in cc)
+set_within (o ∷ ps) zero j n p q x at is below new =
+    let here : j ≡ n = omega (arith, at) in
+    ap (λ xs. xs ++ rows_of ps) (new ∙ ap (λ (r : Part). set (rows_in r) j x) (sym (same_Some o p is)) ∙ ap (λ m. set (rows_in o) m x) here)
+    ∙ sym (set-append_left (rows_in o) (rows_of ps) n x (omega (arith, here, below, sixteen o)))
+set_within (o ∷ ps) (suc k) j n p q x at is below new =
+    ap (λ xs. rows_in o ++ xs) (set_within ps k j (n - 16) p q x (omega (arith, at)) is below new)
+    ∙ sym (set-append_right (rows_in o) (rows_of ps) 16 n x (sixteen o) (omega (arith, at)))
+
+pub row_set : (ps : List Part) (n : ℕ) (p q : Part) (x : Option Row) → slice_get ps (n / 16) ≡ Some p → rows_in q ≡ set (rows_in p) (n % 16) x → rows_of (set ps (n / 16) q) ≡ set (rows_of ps) n x
+row_set ps n p q x is new = set_within ps (n / 16) (n % 16) n p q x (parts_of n) is (within n) new
+
+-- another block of the same rows
+pub same_set : (ps : List Part) (k : ℕ) (p q : Part) → slice_get ps k ≡ Some p → rows_in q ≡ rows_in p → rows_of (set ps k q) ≡ rows_of ps
+same_set [] k p q is same = refl
+same_set (o ∷ ps) zero p q is same = ap (λ xs. xs ++ rows_of ps) (same ∙ ap rows_in (sym (same_Some o p is)))
+same_set (o ∷ ps) (suc k) p q is same = ap (λ xs. rows_in o ++ xs) (same_set ps k p q is same)
+
+-- ---- what is prepared
+
+pub own_within : (ps : List Part) (k : ℕ) → slice_get (map is_own ps) k ≡ Some true → k < length ps
+own_within [] k is = absurd (let f : ◌≡◌ {A = Option Bool} None (Some true) = is in cc)
+own_within (p ∷ ps) zero is = omega arith
+own_within (p ∷ ps) (suc k) is = let rest = own_within ps k is in omega (arith, rest)
+
+pub own_at : (ps : List Part) (k : ℕ) (p : Part) → slice_get (map is_own ps) k ≡ Some true → slice_get ps k ≡ Some p → is_own p ≡ true
+own_at [] k p own is = absurd (let f : ◌≡◌ {A = Option Bool} None (Some true) = own in cc)
+own_at (o ∷ ps) zero p own is = ap is_own (sym (same_Some o p is)) ∙ same_Some (is_own o) true own
+own_at (o ∷ ps) (suc k) p own is = own_at ps k p own is
+
+pub own_there : (ps : List Part) (k : ℕ) (p : Part) → slice_get ps k ≡ Some p → is_own p ≡ true → slice_get (map is_own ps) k ≡ Some true
+own_there [] k p is own = absurd (let f : ◌≡◌ {A = Option Part} None (Some p) = is in cc)
+own_there (o ∷ ps) zero p is own = ap (λ b. Some b) (ap is_own (same_Some o p is) ∙ own)
+own_there (o ∷ ps) (suc k) p is own = own_there ps k p is own
+
+pub own_same : (ps : List Part) (k : ℕ) (q : Part) → is_own q ≡ true → slice_get (map is_own ps) k ≡ Some true → map is_own (set ps k q) ≡ map is_own ps
+own_same [] k q new own = refl
+own_same (o ∷ ps) zero q new own = ap (λ b. b ∷ map is_own ps) (new ∙ sym (same_Some (is_own o) true own))
+own_same (o ∷ ps) (suc k) q new own = ap (λ bs. is_own o ∷ bs) (own_same ps k q new own)
+
+pub own_here : (ps : List Part) (k : ℕ) (q : Part) → is_own q ≡ true → k < length ps → slice_get (map is_own (set ps k q)) k ≡ Some true
+own_here [] k q new below = absurd (omega (arith, below))
+own_here (o ∷ ps) zero q new below = ap (λ b. Some b) new
+own_here (o ∷ ps) (suc k) q new below = own_here ps k q new (omega (arith, below))
+
+pub own_kept : (ps : List Part) (k m : ℕ) (q : Part) → is_own q ≡ true → slice_get (map is_own ps) m ≡ Some true → slice_get (map is_own (set ps k q)) m ≡ Some true
+own_kept [] k m q new own = own
+own_kept (o ∷ ps) zero zero q new own = ap (λ b. Some b) new
+own_kept (o ∷ ps) zero (suc m) q new own = own
+own_kept (o ∷ ps) (suc k) zero q new own = own
+own_kept (o ∷ ps) (suc k) (suc m) q new own = own_kept ps k m q new own
+
+-- ---- a free block more
+
+pub rows_more : (ps : List Part) → rows_of (ps ++ part.Free ∷ []) ≡ rows_of ps ++ free_rows
+rows_more [] = append-nil free_rows
+rows_more (p ∷ ps) = ap (λ xs. rows_in p ++ xs) (rows_more ps) ∙ sym (append_assoc (rows_in p) (rows_of ps) free_rows)
+
+pub grown_none : (xs : List (Option Row)) → IsGrown xs xs
+grown_none xs = (0, sym (append-nil xs))
+
+pub grown_more : (xs : List (Option Row)) (ps : List Part) → IsGrown xs (rows_of ps) → IsGrown xs (rows_of (ps ++ part.Free ∷ []))
+grown_more xs ps (k, is) = (k + 16, rows_more ps ∙ ap (λ ys. ys ++ free_rows) is ∙ append_assoc xs (replicate k None) free_rows ∙ ap (λ ys. xs ++ ys) (replicate-append-replicate k 16 None))

@@ -1,0 +1,18 @@
+//! The rows of a Loc-RIB (RFC 4271, 3.2) as they lie in memory: by the number of its prefix, what is due to a client.
+//!
+//! In come rows by number, one after the other, and the rows of other clients; out goes what a row has. Rows lie in
+//! blocks. Where two clients have a block of the same rows, one copy serves both: most clients of a route server are due
+//! the same.
+//!
+//! - `place` is a row as it lies in memory, `block` so many of them, `part` a block of one client or of several.
+//! - `blocks` has the calls: rows are read by number; before one is written its block is prepared, which takes memory;
+//!   and blocks that were prepared are shared with others, where those have the same rows.
+#![tactic(auto)]
+
+mod block;
+mod blocks;
+mod part;
+mod place;
+
+pub use blocks::Blocks;
+pub use place::Lent;

@@ -1,0 +1,121 @@
+//! A block that one client has, or several.
+
+ghost use Rattle.std.specs.Prelude.{◌≡◌, ◌<◌, None, Some, true, option_map, slice_set, IfOk, IfSome};
+ghost use Rattle.std.specs.Arc.{arc_value};
+ghost use Rattle.rs_rows.specs.Rows.{row_at, shown};
+ghost use Rattle.rs_rows.specs.Places.{lent_row};
+
+use crate::block::Block;
+use crate::place::Lent;
+use rs_attrs::Attrs;
+use rs_octets::Prefix;
+use std::alloc::{AllocError, Global};
+use std::mem;
+use std::sync::Arc;
+
+/// The rows of neighbouring numbers, as a client has them.
+#[derive(Drop)]
+pub(crate) enum Part {
+    /// All are free.
+    Free,
+    /// They can be written.
+    Own(Block),
+    /// Other clients may have them too.
+    Shared(Arc<Block>),
+}
+
+impl Part {
+    ghost use Rattle.rs_rows.specs.Blocks.{is_own, rows_in};
+
+    /// A block that can be shared. Where memory for that is refused, it is one client's still.
+    fn of(alloc: Global, block: Block) -> Part
+        ensures { rows_in result ≡ block.rows.items }
+    {
+        if block.is_free() {
+            return Part::Free;
+        }
+        match Arc::new(alloc, block) {
+            Ok(shared) => Part::Shared(shared),
+            Err(refused) => Part::Own(refused.value),
+        }
+    }
+
+    /// The row at an index, where it has a route.
+    pub(crate) fn at(&self, index: usize) -> Option<Lent<'_>>
+        ensures { option_map lent_row result ≡ row_at (rows_in self.now) index }
+    {
+        match self {
+            Part::Free => None,
+            Part::Own(block) => block.at(index),
+            Part::Shared(block) => block.at(index),
+        }
+    }
+
+    /// A block of the same rows that can be written; none where they can be written here.
+    pub(crate) fn copy(&self, alloc: Global) -> Result<Option<Block>, AllocError>
+        ensures own { IfOk result (λ made. made ≡ None → is_own self.now ≡ true) }
+        ensures rows { IfOk result (λ made. IfSome made (λ block. block.rows.items ≡ rows_in self.now)) }
+    {
+        match self {
+            Part::Free => Ok(Some(Block::free(alloc)?)),
+            Part::Own(_) => Ok(None),
+            Part::Shared(block) => Ok(Some(block.copy(alloc)?)),
+        }
+    }
+
+    /// Takes the route out of the row at an index.
+    pub(crate) fn take(&mut self, index: usize) -> Option<Arc<Attrs>>
+        requires own { is_own self.old ≡ true }
+        requires index { index < 16 }
+        ensures rows { rows_in self.new ≡ slice_set (rows_in self.old) index None }
+        ensures own { is_own self.new ≡ true }
+        ensures was { option_map arc_value result ≡ shown (row_at (rows_in self.old) index) }
+    {
+        match self {
+            Part::Own(block) => block.take(index),
+            Part::Free | Part::Shared(_) => unreachable!(),
+        }
+    }
+
+    /// Puts a route into the row at an index.
+    pub(crate) fn put(&mut self, index: usize, prefix: Prefix, attrs: Arc<Attrs>)
+        requires own { is_own self.old ≡ true }
+        requires index { index < 16 }
+        ensures rows { rows_in self.new ≡ slice_set (rows_in self.old) index (Some (record { prefix = prefix; attributes = arc_value attrs })) }
+        ensures own { is_own self.new ≡ true }
+    {
+        match self {
+            Part::Own(block) => block.put(index, prefix, attrs),
+            Part::Free | Part::Shared(_) => unreachable!(),
+        }
+    }
+
+    /// Another's block, where it has the same rows as this one, which was written.
+    fn same_of(&self, other: &Part) -> Option<Arc<Block>>
+        ensures { IfSome result (λ block. (arc_value block).rows.items ≡ rows_in self.now) }
+    {
+        match (self, other) {
+            (Part::Own(own), Part::Shared(shared)) if own.is_same(shared) => shared.clone().ok(),
+            _ => None,
+        }
+    }
+
+    /// Takes another's block in place of one that was written, where it has the same rows.
+    pub(crate) fn adopt(&mut self, other: &Part)
+        ensures { rows_in self.new ≡ rows_in self.old }
+    {
+        if let Some(block) = self.same_of(other) {
+            *self = Part::Shared(block);
+        }
+    }
+
+    /// What was written can be shared.
+    pub(crate) fn settle(&mut self, alloc: Global)
+        ensures { rows_in self.new ≡ rows_in self.old }
+    {
+        match mem::replace(self, Part::Free) {
+            Part::Own(block) => *self = Part::of(alloc, block),
+            part => *self = part,
+        }
+    }
+}

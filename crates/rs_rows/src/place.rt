@@ -1,0 +1,143 @@
+//! A row as it lies in memory. There is one for each prefix and block of clients, so it takes no more than 16 octets.
+
+ghost use Rattle.std.specs.Prelude.{◌≡◌, None, Some, option_map, IfOk, IsTrue};
+ghost use Rattle.std.specs.Arc.{arc_value};
+ghost use Rattle.rs_rows.specs.Rows.{shown};
+ghost use Rattle.rs_rows.specs.Places.{lent_row};
+
+use rs_attrs::Attrs;
+use rs_octets::Prefix;
+use std::alloc::AllocError;
+use std::marker::Model;
+use std::mem;
+use std::sync::Arc;
+
+/// What lies in a place. The prefix's length and bits stand beside the variant's tag, where a `Prefix` would take eight
+/// octets more.
+#[derive(Drop)]
+pub(crate) enum Held {
+    Free,
+    Taken {
+        len: u8,
+        bits: u32,
+        attrs: Arc<Attrs>,
+    },
+}
+
+/// A row: free, or with a route.
+#[derive(Drop)]
+pub(crate) struct Place {
+    held: Held,
+}
+
+impl Model for Place {
+    ghost use Rattle.std.specs.Prelude.{Option};
+    ghost use Rattle.rs_rows.specs.Rows.{Row};
+    ghost use Rattle.rs_rows.specs.Places.{IsPlace, row_of};
+
+    ghost Value = { Option Row };
+
+    ghost view = { λ p. row_of p.held };
+
+    ghost invariant = { λ p. IsPlace p.held };
+}
+
+/// A route that is due, beside its prefix, as a row lends it.
+#[derive(Clone, Copy)]
+pub struct Lent<'a> {
+    pub prefix: Prefix,
+    pub attrs: &'a Arc<Attrs>,
+}
+
+impl Place {
+    pub(crate) fn free() -> Place
+        ensures { result ≡ None }
+    {
+        Place { held: Held::Free }
+    }
+
+    pub(crate) fn of(prefix: Prefix, attrs: Arc<Attrs>) -> Place
+        ensures { result ≡ Some (record { prefix = prefix; attributes = arc_value attrs }) }
+    {
+        Place {
+            held: Held::Taken {
+                len: prefix.len(),
+                bits: prefix.bits(),
+                attrs,
+            },
+        }
+    }
+
+    /// The route, where there is one.
+    pub(crate) fn row(&self) -> Option<Lent<'_>>
+        ensures { option_map lent_row result ≡ self.now }
+    {
+        match &self.held {
+            Held::Free => None,
+            Held::Taken { len, bits, attrs } => Some(Lent {
+                prefix: Prefix::new(*bits, *len)?,
+                attrs,
+            }),
+        }
+    }
+
+    /// Whether there is no route.
+    pub(crate) fn is_free(&self) -> bool
+        ensures { IsTrue result → self.now ≡ None }
+    {
+        matches!(self.held, Held::Free)
+    }
+
+    /// Takes the route out.
+    pub(crate) fn take(&mut self) -> Option<Arc<Attrs>>
+        ensures route { option_map arc_value result ≡ shown self.old }
+        ensures free { self.new ≡ None }
+    {
+        match mem::replace(&mut self.held, Held::Free) {
+            Held::Free => None,
+            Held::Taken { attrs, .. } => Some(attrs),
+        }
+    }
+
+    /// The same row once more, which shares the attributes.
+    pub(crate) fn copy(&self) -> Result<Place, AllocError>
+        ensures { IfOk result (λ place. place ≡ self.now) }
+    {
+        match &self.held {
+            Held::Free => Ok(Place::free()),
+            Held::Taken { len, bits, attrs } => Ok(Place {
+                held: Held::Taken {
+                    len: *len,
+                    bits: *bits,
+                    attrs: attrs.clone()?,
+                },
+            }),
+        }
+    }
+
+    /// Whether another row is the same.
+    pub(crate) fn is_same(&self, other: &Place) -> bool
+        ensures { IsTrue result → other.now ≡ self.now }
+    {
+        match (&self.held, &other.held) {
+            (Held::Free, Held::Free) => true,
+            (
+                Held::Taken { len, bits, attrs },
+                Held::Taken {
+                    len: other_len,
+                    bits: other_bits,
+                    attrs: other_attrs,
+                },
+            ) => {
+                if len != other_len {
+                    return false;
+                }
+                if bits != other_bits {
+                    return false;
+                }
+                **attrs == **other_attrs
+            }
+            _ => false,
+        }
+    }
+}
