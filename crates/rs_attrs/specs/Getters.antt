@@ -9,7 +9,7 @@ use Rattle.rs_attrs.specs.Writing.{path_in}
 use Rattle.rs_attrs.specs.Table.{Row, row_of, is_kept, is_well_formed}
 use Rattle.rs_attrs.specs.declared.mode.Mode.TheVariants.{Four}
 use Rattle.rs_attrs.specs.declared.getters.AttributeRef.{AttributeRef}
-use Rattle.rs_attrs.specs.declared.getters.Tags.{Tags}
+use Rattle.rs_attrs.specs.declared.tags.Tags.{Tags}
 use Rattle.rs_attrs.specs.declared.patterns.LargeCommunity.{LargeCommunity}
 use Rattle.rs_attrs.specs.Types as types
 

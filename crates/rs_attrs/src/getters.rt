@@ -7,12 +7,12 @@ ghost use Rattle.rs_attrs.specs.Held.{attributes_in, values_size};
 ghost use Rattle.rs_attrs.specs.Effects.{lacks_mandatory, missing_of};
 ghost use Rattle.rs_attrs.specs.Meaning.{get};
 ghost use Rattle.rs_attrs.specs.Paths.{segment_length};
-ghost use Rattle.rs_attrs.specs.Patterns.{is_like, is_like_large};
 ghost use Rattle.rs_attrs.specs.Getters.{attribute_at, IsWellFormedAs, value_of, origin_of, path_of, next_hop_of, med_of, communities_of, large_communities_of, path_length_of, path_has_of, origin_as_of, tagged, large_tagged};
 
 use crate::attrs::{Attrs, Head};
-use crate::patterns::{CommunityPattern, LargeCommunities, LargeCommunityPattern};
+use crate::patterns::LargeCommunities;
 use crate::segments::{Numbers, Segments};
+use crate::tags::Tags;
 use crate::types::{AS_PATH, COMMUNITIES, LARGE_COMMUNITY, MULTI_EXIT_DISC, NEXT_HOP, ORIGIN};
 
 /// An attribute as it stands in `Attrs`: its type, its flags (RFC 4271, 4.3) and its value, with AS
@@ -24,13 +24,6 @@ pub struct AttributeRef<'a> {
     pub transitive: bool,
     pub partial: bool,
     pub value: &'a [u8],
-}
-
-/// The communities and the large communities of a route, found once for many tests.
-#[derive(Clone, Copy, Debug)]
-pub struct Tags<'a> {
-    communities: &'a [u8],
-    large: &'a [u8],
 }
 
 /// The attribute of a type, where one of the heads is of that type.
@@ -194,25 +187,8 @@ impl Attrs {
         ensures communities { tagged result ≡ communities_of self.now }
         ensures large { large_tagged result ≡ large_communities_of self.now }
     {
-        Tags {
-            communities: self.value(COMMUNITIES).unwrap_or(&[]),
-            large: self.value(LARGE_COMMUNITY).unwrap_or(&[]),
-        }
-    }
-}
-
-impl Tags<'_> {
-    /// Whether there is a community like this (RFC 1997).
-    pub fn has_community_like(&self, pattern: &CommunityPattern) -> bool
-        ensures { result ≡ list_any (is_like pattern.now) (tagged self.now) }
-    {
-        Numbers::of(self.communities).any(|community| pattern.fits(community))
-    }
-
-    /// Whether there is a large community like this (RFC 8092).
-    pub fn has_large_community_like(&self, pattern: &LargeCommunityPattern) -> bool
-        ensures { result ≡ list_any (is_like_large pattern.now) (large_tagged self.now) }
-    {
-        LargeCommunities::of(self.large).any(|community| pattern.fits(community))
+        let communities = self.value(COMMUNITIES).unwrap_or(&[]);
+        let large = self.value(LARGE_COMMUNITY).unwrap_or(&[]);
+        Tags::of(communities, large)
     }
 }

@@ -10,7 +10,7 @@
 //!   table, `gathering` keeps what counts, `two` puts AS4_PATH and AS4_AGGREGATOR in their places.
 //! - `faults` says what is wrong with a field, for the UPDATE and for the log.
 //! - `attrs` says how attributes lie in memory; `getters` and `stripping` ask and change them, by the
-//!   communities that are like `patterns`.
+//!   communities that are like `patterns`; `tags` are a route's communities, found once for many tests.
 //! - `segments` takes a path apart, for AS numbers in two octets and in four.
 //! - `writing` and its folder: `parts` is the list of what is to be written, by rising type, which
 //!   `size` counts and `write_into` writes; `head` spells what stands before a value, `narrow` the
@@ -30,12 +30,13 @@ mod reading;
 mod segments;
 mod stripping;
 mod table;
+mod tags;
 mod types;
 mod writing;
 
 pub use attrs::Attrs;
 pub use faults::{AttributeFault, Cause, Faulted, Faults};
-pub use getters::{AttributeRef, Tags};
+pub use getters::AttributeRef;
 pub use laws::{
     attributes_are_legal, changes_overlay, fields_are_read, fields_mean_one, paths_are_read,
     slices_are_octets, spelling_reads_back,
@@ -46,6 +47,7 @@ pub use reading::{Parsed, read};
 pub use segments::{Numbers, PathSegment, Segments};
 pub use stripping::{OwnedStrip, Strip, stripped};
 pub use table::attribute_name;
+pub use tags::Tags;
 pub use types::{
     AGGREGATOR, AS_PATH, AS4_AGGREGATOR, AS4_PATH, ATOMIC_AGGREGATE, CLUSTER_LIST, COMMUNITIES,
     EXTENDED_COMMUNITIES, LARGE_COMMUNITY, LOCAL_PREF, MP_REACH_NLRI, MP_UNREACH_NLRI,
