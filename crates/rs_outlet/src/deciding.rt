@@ -19,14 +19,14 @@ ghost use Rattle.rs_outlet.specs.Decided.Passing.{attributes_passed, due_alone, 
 
 use crate::answers::Speech;
 use crate::choices::{Choice, Choices};
-use crate::memo::{Judged, judge_once};
+use crate::memo::{Judged, recall};
 use crate::stripped::Stripped;
 use rs_adjin::{AdjIns, Holder, Holders};
 use rs_attrs::{Attrs, Strip};
 use rs_decision::{Rank, best};
 use rs_octets::Prefix;
 use rs_packer::fits;
-use rs_policy::{Config, Fate, judge_noted, judges_alike};
+use rs_policy::{Config, Fate, is_plain_note, judge_noted, judges_alike, plain_strip};
 use std::alloc::{AllocError, Global};
 use std::mem;
 use std::sync::Arc;
@@ -37,6 +37,10 @@ pub(crate) struct Sources<'a> {
     pub(crate) ins: &'a AdjIns,
     pub(crate) config: &'a Config,
     pub(crate) client: usize,
+    /// The client's export rules judge routes with the same attributes and note alike.
+    pub(crate) alike: bool,
+    /// The client has what its senders' import lists pass plainly as it is.
+    pub(crate) plain: bool,
 }
 
 /// What one decision of a turn leaves to the next: room for ranks, what became of the last route, and choices that serve
@@ -98,6 +102,17 @@ impl Passed<'_> {
             Passed::Whole(attrs) => attrs.clone(),
             Passed::Stripped(attrs) => Ok(attrs),
         }
+    }
+}
+
+/// The same once more, which shares what is passed on.
+pub(crate) fn copied<'a>(passed: &Option<Passed<'a>>) -> Result<Option<Passed<'a>>, AllocError>
+    ensures { IfOk result (λ copy. option_map attributes_passed copy ≡ option_map attributes_passed passed.now) }
+{
+    match passed {
+        None => Ok(None),
+        Some(Passed::Whole(attrs)) => Ok(Some(Passed::Whole(attrs))),
+        Some(Passed::Stripped(attrs)) => Ok(Some(Passed::Stripped(attrs.clone()?))),
     }
 }
 
@@ -190,7 +205,34 @@ fn strip_from<'a>(
     }
 }
 
-/// The route as it is passed on.
+/// The route as the rules pass it on.
+fn pass_by_rules<'a>(
+    sources: &Sources<'a>,
+    number: u32,
+    prefix: &Prefix,
+    holder: &Holder<'a>,
+    stripped: &mut Stripped,
+) -> Result<Option<Passed<'a>>, AllocError>
+    requires client { sources.now.client < length sources.now.config.now.clients }
+    requires known { holder.now.client < length sources.now.config.now.clients }
+    requires noted { holder.now.note ≡ note_of_import sources.now.config.now holder.now.client prefix.now (arc_value holder.now.attrs.now) }
+    ensures { IfOk result (λ passed. option_map attributes_passed passed ≡ passed_on (arc_value holder.now.attrs.now) (verdict sources.now.config.now holder.now.client sources.now.client prefix.now (arc_value holder.now.attrs.now))) }
+{
+    match judge_noted(
+        sources.config,
+        holder.client,
+        sources.client,
+        prefix,
+        holder.attrs,
+        holder.note,
+    ) {
+        Fate::Drop => Ok(None),
+        Fate::Pass { strip, .. } => Ok(Some(strip_from(number, holder.attrs, &strip, stripped)?)),
+    }
+}
+
+/// The route as it is passed on. Where the client's export rules ask for no prefix, they are asked once of routes that one
+/// UPDATE announced, which are decided one after the other.
 fn pass_on<'a>(
     sources: &Sources<'a>,
     number: u32,
@@ -199,17 +241,25 @@ fn pass_on<'a>(
     memo: &mut Option<Judged<'a>>,
     stripped: &mut Stripped,
 ) -> Result<Option<Passed<'a>>, AllocError>
-    requires client { sources.now.client < length sources.now.config.now.clients }
+    requires server { AreOfOneServer sources.now }
     requires known { holder.now.client < length sources.now.config.now.clients }
     requires noted { holder.now.note ≡ note_of_import sources.now.config.now holder.now.client prefix.now (arc_value holder.now.attrs.now) }
     requires memo { IsMemo sources.now.config.now sources.now.client memo.old }
     ensures passed { IfOk result (λ passed. option_map attributes_passed passed ≡ passed_on (arc_value holder.now.attrs.now) (verdict sources.now.config.now holder.now.client sources.now.client prefix.now (arc_value holder.now.attrs.now))) }
     ensures memo { IsMemo sources.now.config.now sources.now.client memo.new }
 {
-    match judge_once(sources.config, sources.client, prefix, holder, memo) {
-        Fate::Drop => Ok(None),
-        Fate::Pass { strip, .. } => Ok(Some(strip_from(number, holder.attrs, &strip, stripped)?)),
+    if sources.plain && is_plain_note(holder.note) {
+        let passed = strip_from(number, holder.attrs, &plain_strip(), stripped)?;
+        return Ok(Some(passed));
     }
+    if let Some(passed) = recall(memo, holder) {
+        return copied(passed);
+    }
+    let passed = pass_by_rules(sources, number, prefix, holder, stripped)?;
+    if sources.alike {
+        *memo = Some(Judged::of(holder, &passed)?);
+    }
+    Ok(passed)
 }
 
 /// The route, where it fits into a message to the client that announces this prefix alone.
@@ -233,7 +283,7 @@ fn pass_fitting<'a>(
     memo: &mut Option<Judged<'a>>,
     stripped: &mut Stripped,
 ) -> Result<Option<Passed<'a>>, AllocError>
-    requires client { sources.now.client < length sources.now.config.now.clients }
+    requires server { AreOfOneServer sources.now }
     requires known { holder.now.client < length sources.now.config.now.clients }
     requires noted { holder.now.note ≡ note_of_import sources.now.config.now holder.now.client prefix.now (arc_value holder.now.attrs.now) }
     requires memo { IsMemo sources.now.config.now sources.now.client memo.old }
@@ -256,7 +306,7 @@ fn decide_alone<'a>(
     memo: &mut Option<Judged<'a>>,
     stripped: &mut Stripped,
 ) -> Result<Option<Passed<'a>>, AllocError>
-    requires client { sources.now.client < length sources.now.config.now.clients }
+    requires server { AreOfOneServer sources.now }
     requires known { holder.now.client < length sources.now.config.now.clients }
     requires noted { holder.now.note ≡ note_of_import sources.now.config.now holder.now.client prefix.now (arc_value holder.now.attrs.now) }
     requires memo { IsMemo sources.now.config.now sources.now.client memo.old }

@@ -1,28 +1,49 @@
 //! What became of a route that was decided last: the same becomes of the next one where it differs in its prefix alone.
 
-ghost use Rattle.std.specs.Prelude.{◌≡◌, ◌<◌, IsTrue, length};
+ghost use Rattle.std.specs.Prelude.{◌≡◌, ℕ, IfOk, IfSome, IsTrue, option_map};
 ghost use Rattle.std.specs.Arc.{arc_value};
-ghost use Rattle.rs_policy.specs.Judged.{judged};
+ghost use Rattle.rs_octets.specs.Prefixes.{Prefix};
+ghost use Rattle.rs_policy.specs.Configuration.{Configuration};
 ghost use Rattle.rs_policy.specs.Noted.{note_of_import};
 ghost use Rattle.rs_policy.specs.Verdicts.{verdict};
+ghost use Rattle.rs_outlet.specs.Decided.Due.{passed_on};
 ghost use Rattle.rs_outlet.specs.Decided.Memo.{IsMemo};
+ghost use Rattle.rs_outlet.specs.Decided.Passing.{attributes_passed};
 
+use crate::deciding::{Passed, copied};
 use rs_adjin::Holder;
 use rs_attrs::Attrs;
-use rs_octets::Prefix;
-use rs_policy::{Config, Verdict, judge_noted, judges_alike, judges_prefixes_alike};
+use std::alloc::AllocError;
 use std::sync::Arc;
 
 /// What became of a route of a client.
-#[derive(Clone, Copy)]
+#[derive(Drop)]
 pub(crate) struct Judged<'a> {
     from: usize,
     note: u32,
     whole: &'a Arc<Attrs>,
-    verdict: Verdict<'a>,
+    passed: Option<Passed<'a>>,
 }
 
-impl Judged<'_> {
+impl<'a> Judged<'a> {
+    /// This became of a route.
+    pub(crate) fn of(
+        holder: &Holder<'a>,
+        passed: &Option<Passed<'a>>,
+    ) -> Result<Judged<'a>, AllocError>
+        ensures from { IfOk result (λ judged. judged.from ≡ holder.now.client) }
+        ensures note { IfOk result (λ judged. judged.note ≡ holder.now.note) }
+        ensures whole { IfOk result (λ judged. arc_value judged.whole.now ≡ arc_value holder.now.attrs.now) }
+        ensures passed { IfOk result (λ judged. option_map attributes_passed judged.passed ≡ option_map attributes_passed passed.now) }
+    {
+        Ok(Judged {
+            from: holder.client,
+            note: holder.note,
+            whole: holder.attrs,
+            passed: copied(passed)?,
+        })
+    }
+
     /// Whether a route is of the same client, with the same attributes and note.
     fn is_like(&self, holder: &Holder<'_>) -> bool
         ensures from { IsTrue result → self.now.from ≡ holder.now.client }
@@ -33,40 +54,15 @@ impl Judged<'_> {
     }
 }
 
-/// What becomes of a route on its way to a client. Where the client's export rules ask for no prefix, they are asked once of
-/// routes that one UPDATE announced, which are decided one after the other.
-pub(crate) fn judge_once<'a>(
-    config: &'a Config,
-    to: usize,
-    prefix: &Prefix,
-    holder: &Holder<'a>,
-    memo: &mut Option<Judged<'a>>,
-) -> Verdict<'a>
-    requires to { to < length config.now.clients }
-    requires from { holder.now.client < length config.now.clients }
-    requires noted { holder.now.note ≡ note_of_import config.now holder.now.client prefix.now (arc_value holder.now.attrs.now) }
-    requires memo { IsMemo config.now to memo.old }
-    ensures verdict { judged result ≡ verdict config.now holder.now.client to prefix.now (arc_value holder.now.attrs.now) }
-    ensures memo { IsMemo config.now to memo.new }
+/// What became of the last route, where this one is like it.
+pub(crate) fn recall<'m, 'a>(
+    memo: &'m Option<Judged<'a>>,
+    holder: &Holder<'_>,
+) -> Option<&'m Option<Passed<'a>>>
+    ensures { (s : Configuration) (to : ℕ) (p : Prefix) → IsMemo s to memo.now → holder.now.note ≡ note_of_import s holder.now.client p (arc_value holder.now.attrs.now) → IfSome result (λ passed. option_map attributes_passed passed.now ≡ passed_on (arc_value holder.now.attrs.now) (verdict s holder.now.client to p (arc_value holder.now.attrs.now))) }
 {
-    if let Some(judged) = memo {
-        if judged.is_like(holder) {
-            return judged.verdict;
-        }
+    match memo {
+        Some(judged) if judged.is_like(holder) => Some(&judged.passed),
+        _ => None,
     }
-    let Holder {
-        client,
-        note,
-        attrs,
-    } = *holder;
-    let verdict = judge_noted(config, client, to, prefix, attrs, note);
-    if !judges_alike(config, to, to) && judges_prefixes_alike(config, to) {
-        *memo = Some(Judged {
-            from: client,
-            note,
-            whole: attrs,
-            verdict,
-        });
-    }
-    verdict
 }

@@ -31,7 +31,7 @@ use rs_adjin::AdjIns;
 use rs_attrs::Mode;
 use rs_octets::Prefix;
 use rs_open::{Limit, ServerOpen, Short, short_size, write_open};
-use rs_policy::Config;
+use rs_policy::{Config, judges_prefixes_alike, passes_plainly};
 use std::alloc::{AllocError, Global};
 use std::marker::Model;
 
@@ -270,6 +270,8 @@ impl Outlet {
             ins,
             config,
             client: self.client,
+            alike: judges_prefixes_alike(config, self.client),
+            plain: passes_plainly(config, self.client),
         };
         match self.turn_up(speech, &sources, choices) {
             Ok(turned) => Ok(turned),

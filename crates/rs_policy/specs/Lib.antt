@@ -1,4 +1,5 @@
 pub mod Accepted
+pub mod Alike
 pub mod Asking
 pub mod Configuration
 pub mod Documents

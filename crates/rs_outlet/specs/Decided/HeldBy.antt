@@ -1,7 +1,8 @@
 -- The tables that the code decides by.
-use Rattle.std.specs.Prelude.{◌≡◌, ◌<◌, length}
+use Rattle.std.specs.Prelude.{◌≡◌, ◌<◌, true, length}
 use Rattle.rs_adjin.specs.AdjIns.{client_count, held_of, identifier_of, AreNoted}
 use Rattle.rs_adjin.specs.declared.adj_ins.AdjIns.{AdjIns}
+use Rattle.rs_policy.specs.Alike.{PassesPlainly, PrefixesAreAlike}
 use Rattle.rs_policy.specs.Configuration.{Configuration}
 use Rattle.rs_policy.specs.Noted.{note_of_import}
 use Rattle.rs_outlet.specs.Decided.Due.{Held}
@@ -13,8 +14,11 @@ tables_of config ins = record { settings = config; count = client_count ins; hel
 abbrev pub held_by : Sources → Held
 held_by s = tables_of s.config.now s.ins.now
 
--- the tables and the rules are of one server, whose client this is, and each route has the note of its import list
+-- The tables and the rules are of one server, whose client this is, and each route has the note of its import list. Of the rules on
+-- the way to the client two things are known beforehand, where they are so.
 pub record AreOfOneServer (s : Sources) : Type 0 where
   pub client : s.client < length s.config.now.clients
   pub count : client_count s.ins.now ≡ length s.config.now.clients
   pub noted : AreNoted (note_of_import s.config.now) s.ins.now
+  pub alike : s.alike ≡ true → PrefixesAreAlike s.config.now s.client
+  pub plain : s.plain ≡ true → PassesPlainly s.config.now s.client

@@ -2,16 +2,16 @@
 
 ghost use Rattle.std.specs.Prelude.{◌≡◌, ◌<◌, ℕ, List, length, IsTrue};
 ghost use Rattle.std.specs.List.{list_any};
+ghost use Rattle.rs_policy.specs.Alike.{PassesPlainly, PrefixesAreAlike};
 ghost use Rattle.rs_policy.specs.Asking.{asks_prefix};
 ghost use Rattle.rs_policy.specs.Configuration.{rules_in};
-ghost use Rattle.rs_policy.specs.Noted.{note_of_import};
 ghost use Rattle.rs_octets.specs.Prefixes.{Prefix};
 ghost use Rattle.rs_attrs.specs.Meaning.{Attribute};
 ghost use Rattle.rs_policy.specs.Verdicts.{verdict};
 
 use crate::config::Config;
 use crate::config::shared_rules::SharedRules;
-use crate::rules::{Item, Rule};
+use crate::rules::{Disposition, Item, Rule};
 
 /// Whether the rules judge each route alike on its way to both clients: neither has export rules. Import lists ask for no
 /// receiver. It takes no memory.
@@ -58,10 +58,23 @@ fn asks_prefix_among(shared: &[SharedRules], items: &[Item]) -> bool
 /// their prefixes are: none of its export rules asks for the prefix. It takes no memory.
 pub fn judges_prefixes_alike(config: &Config, to: usize) -> bool
     requires { to < length config.now.clients }
-    ensures { IsTrue result → (from : ℕ) (p q : Prefix) (m : List Attribute) → from < length config.now.clients → note_of_import config.now from p m ≡ note_of_import config.now from q m → verdict config.now from to p m ≡ verdict config.now from to q m }
+    ensures { IsTrue result → PrefixesAreAlike config.now to }
 {
     config.is_read();
     let exports = config.export(to);
     let (items, shared) = exports.parts();
     !asks_prefix_among(shared, items)
+}
+
+/// Whether a route that its sender's import list passes plainly (`is_plain_note`) goes to a client as it is, with no preference
+/// and all communities: the client has no export rules, and what no rule decides is passed. It takes no memory.
+pub fn passes_plainly(config: &Config, to: usize) -> bool
+    requires { to < length config.now.clients }
+    ensures { IsTrue result → PassesPlainly config.now to }
+{
+    config.is_read();
+    if !config.export(to).is_empty() {
+        return false;
+    }
+    matches!(config.default(), Disposition::Pass)
 }

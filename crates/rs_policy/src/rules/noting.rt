@@ -1,7 +1,7 @@
 //! What the sender's import list makes of a route, as a number that stands beside the route: the list is asked when
 //! the route is heard, and not anew for each receiver.
 
-ghost use Rattle.std.specs.Prelude.{◌≡◌, ℕ, ◌+◌, ◌*◌, ◌<◌, ◌≤◌, List, length, option_map};
+ghost use Rattle.std.specs.Prelude.{◌≡◌, ℕ, ◌+◌, ◌*◌, ◌<◌, ◌≤◌, ◌==◌, List, length, option_map};
 ghost use Rattle.rs_octets.specs.Prefixes.{Prefix};
 ghost use Rattle.rs_attrs.specs.Meaning.{Attribute};
 ghost use Rattle.rs_policy.specs.Configuration.{stated_of};
@@ -98,6 +98,13 @@ pub fn import_note(config: &Config, from: usize, prefix: &Prefix, attrs: &Attrs)
             }
         }
     }
+}
+
+/// Whether a note says that the sender's import list passes the route with no preference and all communities.
+pub fn is_plain_note(note: u32) -> bool
+    ensures { result ≡ (note == 1) }
+{
+    note == PLAINLY
 }
 
 /// What the rule of the import list of client `from` does that decided by this note.

@@ -2,9 +2,10 @@
 
 ghost use Rattle.std.specs.Prelude.{◌≡◌, ◌<◌, length, find, option_map, is_some, Some};
 ghost use Rattle.rs_policy.specs.Noted.{is_plain, plainly};
-ghost use Rattle.rs_policy.specs.Verdicts.{announced_route, joined, matches, passing, passing_by_default, outcome, verdict};
+ghost use Rattle.rs_policy.specs.Verdicts.{announced_route, joined, matches, passing, passed, passing_by_default, outcome, verdict};
 ghost use Rattle.rs_policy.specs.Configuration.{policy_of, rules_in};
 ghost use Rattle.rs_policy.specs.Judged.{offered, passed_as, judged};
+ghost use Rattle.rs_attrs.specs.Stripping.{taken_by};
 
 use crate::config::Config;
 use crate::config::named_lists::NamedList;
@@ -170,6 +171,18 @@ pub(super) fn passes(
     outcome(default, lists, rules, offer).is_some()
 }
 
+/// What is taken out of a route that both lists pass plainly: nothing.
+pub fn plain_strip<'a>() -> Strip<'a>
+    ensures { joined (Some plainly) (Some plainly) ≡ passed 100 (taken_by result) }
+{
+    Strip {
+        communities: [&[], &[]],
+        all_communities: false,
+        large: [&[], &[]],
+        all_large: false,
+    }
+}
+
 /// What becomes of a route where neither list has a rule.
 pub(super) fn judge_without_rules<'a>(default: Disposition) -> Verdict<'a>
     ensures { judged result ≡ joined (passing_by_default default) (passing_by_default default) }
@@ -178,12 +191,7 @@ pub(super) fn judge_without_rules<'a>(default: Disposition) -> Verdict<'a>
         Disposition::Drop => Verdict::Drop,
         Disposition::Pass => Verdict::Pass {
             preference: DEFAULT_PREFERENCE,
-            strip: Strip {
-                communities: [&[], &[]],
-                all_communities: false,
-                large: [&[], &[]],
-                all_large: false,
-            },
+            strip: plain_strip(),
         },
     }
 }
