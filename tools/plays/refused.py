@@ -4,9 +4,10 @@ play.py refused PROGRAM FOLDER
 
 Of the requests for memory of a session, by 1 and by 2 workers, each is refused in a run of its own. It must show as a
 line `memory NAME`, with `close NAME` where octets came and without at a turn; as `rules refused: out of memory`; or as status 3
-with the words `out of memory`, and then what was written is a front of what is written else. Three kinds show as nothing: the
-one request of READING, those by which a thread is started for a turn by 2 workers, which is then done on one, and those of a turn
-for what serves other clients too, choices and what rules left of routes, which is then made anew for these. Behind the
+with the words `out of memory`, and then what was written is a front of what is written else. Four kinds show as nothing: the
+one request of READING, those by which a thread is started for a turn by 2 workers, which is then done on one, those of a turn
+for what serves other clients too, choices and what rules left of routes, which is then made anew for these, and those
+behind a turn by which other clients can have the same rows, which are then the client's own still. Behind the
 session the clients that were lost come again and say again what they said, a turn and room for all follow, and each
 Established client must hold what the plain function says (`holding.py`).
 """
@@ -117,6 +118,8 @@ class Refusals:
 OF_A_THREAD = 1
 # For what serves other clients too a worker makes this many at a turn.
 OF_CHOICES = 1
+# That others can have its rows, which lie in one block in these sessions, a client makes this many behind a turn.
+OF_ROWS = 1
 
 
 def sweep(program, library, folder, name, workers):
@@ -128,13 +131,13 @@ def sweep(program, library, folder, name, workers):
         kinds[refusals.kind(number, played)] += 1
         if not played.status and (found := asked(played).wrong):
             otherwise.append(f"{found} where request {number} is refused")
-    turns = refusals.lines.count("turn")
+    turns, clients = refusals.lines.count("turn"), len(tomllib.loads(refusals.text)["client"])
     most = {
         "in a line": number,
         "by status 3": number,
         "nowhere, by the words": READING,
-        "nowhere, at turn": OF_CHOICES * turns,
-        "nowhere, by a thread": (OF_A_THREAD + OF_CHOICES * workers) * turns,
+        "nowhere, at turn": (OF_CHOICES + OF_ROWS * clients) * turns,
+        "nowhere, by a thread": (OF_A_THREAD + OF_CHOICES * workers + OF_ROWS * clients) * turns,
     }
     wrong = [f"{count} shown {kind}" for kind, count in kinds.items() if count > most.get(kind, 0)] + otherwise
     told = ", ".join(f"{count} {kind}" for kind, count in sorted(kinds.items()))

@@ -249,6 +249,34 @@ fn shares_are_as_long_as_said(rt: HostRuntime) {
     }
 }
 
+/// So many workers turn the outlets of five members, of which the first announces 64 prefixes with one set of attributes.
+/// Answers how many owners more the set has then.
+fn owners_more<R: Threads + Wait + Sync + Abort>(rt: &R, alloc: Global, workers: usize) -> usize {
+    let mut exchange = Exchange::new(rt, alloc, 5, 0);
+    let set = attrs(rt, alloc, 11);
+    for n in 0..64 {
+        announce(rt, &mut exchange.tables, 0, n, &set);
+    }
+    let before = Arc::strong_count(&set);
+    let all = exchange.turned(rt, workers, &Free);
+    have_decided(rt, &all, 5, 64);
+    Arc::strong_count(&set).saturating_sub(before)
+}
+
+/// Four outlets are due the same 64 rows. Outlets of one share have one copy of them.
+#[test]
+fn outlets_of_a_share_have_one_copy_of_their_rows(rt: HostRuntime) {
+    // workers, copies
+    for (workers, copies) in [(1, 1), (2, 2), (4, 3), (16, 4)] {
+        is_of(
+            &rt,
+            owners_more(&rt, rt.alloc(), workers),
+            copies * 64,
+            &workers,
+        );
+    }
+}
+
 /// Turns by so many workers leave all seven outlets as turns by one do.
 fn is_the_same<R: Threads + Wait + Sync + Abort>(rt: &R, exchange: &mut Exchange, workers: usize) {
     let mut alone = exchange.turned(rt, 1, &Free);

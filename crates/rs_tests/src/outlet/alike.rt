@@ -1,9 +1,9 @@
-//! Clients to which the same rules apply are told of one copy of what these leave of a route.
+//! Clients to which the same rules apply are told of one copy of what these leave of a route, and have one copy of their rows.
 
 ghost use Rattle.rs_outlet.specs.Decided.Choices.{AreChoices};
 ghost use Rattle.rs_outlet.specs.Decided.HeldBy.{tables_of};
 
-use super::{CLIENT, Exchange, let_go, prefix};
+use super::{CLIENT, Exchange, let_go, prefix, some};
 use crate::common::{equals, shared};
 use rs_attrs::{Attrs, Mode};
 use rs_open::Limit;
@@ -102,6 +102,13 @@ fn have_owners(rt: &impl Abort, exchange: &Exchange, outlet: &Outlet, sets: u8, 
     }
 }
 
+/// The last octet of NEXT_HOP that the client is due for the first prefix.
+fn host_of(rt: &impl Abort, exchange: &Exchange, outlet: &Outlet) -> u32 {
+    let attrs = outlet.route(&prefix(rt, 0), &exchange.tables);
+    let address = attrs.expect(rt, "a route").next_hop();
+    address.expect(rt, "NEXT_HOP") % 256
+}
+
 /// Two prefixes have each set of attributes, and each client that is told of it is one owner more for each of them.
 #[test]
 fn clients_share_what_rules_left(rt: HostRuntime) {
@@ -115,6 +122,48 @@ fn clients_share_what_rules_left(rt: HostRuntime) {
     have_owners(&rt, &exchange, &first, SETS, 4);
     have_owners(&rt, &exchange, &alike, SETS, 4);
     have_owners(&rt, &exchange, &other, SETS, 2);
+    let_go(exchange, first);
+}
+
+/// Outlets that have the same rows share them, and one that has others keeps its own: of each set one has two rows then.
+#[test]
+fn outlets_share_the_same_rows_alone(rt: HostRuntime) {
+    let mut exchange = Exchange::of(&rt, rt.alloc(), STRIPPED);
+    announce(&rt, &mut exchange, SETS, 2, false);
+    let mut choices = Choices::new(rt.alloc());
+    let mut first = turned(&rt, &exchange, CLIENT, &mut choices);
+    let mut alike = turned(&rt, &exchange, CLIENT + 1, &mut choices);
+    let mut other = turned(&rt, &exchange, CLIENT + 2, &mut choices);
+    drop(choices);
+    first.settle();
+    alike.adopt(&first);
+    alike.settle();
+    other.adopt(&first);
+    other.settle();
+    have_owners(&rt, &exchange, &first, SETS, 2);
+    have_owners(&rt, &exchange, &alike, SETS, 2);
+    have_owners(&rt, &exchange, &other, SETS, 2);
+    let_go(exchange, first);
+}
+
+/// What one of two outlets that share rows is due later, the other is not.
+#[test]
+fn shared_rows_are_written_apart(rt: HostRuntime) {
+    let mut exchange = Exchange::of(&rt, rt.alloc(), STRIPPED);
+    announce(&rt, &mut exchange, SETS, 2, false);
+    let mut choices = Choices::new(rt.alloc());
+    let mut first = turned(&rt, &exchange, CLIENT, &mut choices);
+    let mut alike = turned(&rt, &exchange, CLIENT + 1, &mut choices);
+    drop(choices);
+    first.settle();
+    alike.adopt(&first);
+    alike.settle();
+    let changed = attrs(&rt, exchange.alloc, SETS, 3);
+    exchange.announce(&rt, 0, &changed);
+    exchange.touch(&rt, &mut first, 0..1, 1);
+    exchange.decides(&rt, &mut first, some(1));
+    equals(&rt, host_of(&rt, &exchange, &first), u32::from(SETS));
+    equals(&rt, host_of(&rt, &exchange, &alike), 0);
     let_go(exchange, first);
 }
 
