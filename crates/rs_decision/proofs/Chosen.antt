@@ -1,12 +1,12 @@
 -- The seven filters together.
-use Rattle.std.proofs.Common.{Bool, false, ◌≡◌, ◌≤◌, ◌&&◌, ◌==◌, ℕ, List, [], ◌∷◌, refl, sym, ◌∙◌, ap, arith, inl}
+use Rattle.std.proofs.Common.{Bool, false, ◌≡◌, ◌≤◌, ◌&&◌, ◌==◌, ℕ, List, [], ◌∷◌, ◌≢◌, refl, sym, ◌∙◌, ap, subst, arith, inl, inr}
 use Rattle.std.specs.Prelude.{Option, Some, None, nat_lt, slice_get, Contains}
 use Rattle.std.specs.List.Sorted.{IsPermutation}
 use Rattle.std.proofs.lemmas.Bool.Decides.{nat_tests}
 use Rattle.std.proofs.lemmas.List.Sorted.{Contains-permutation, IsPermutation-sym}
 use Rattle.rs_decision.specs.declared.rank.Rank.{Rank}
 use Rattle.rs_decision.specs.Choice.{med_of, by_preference, by_path, by_origin, by_med, by_identifier, by_address, by_place, best_of}
-use Rattle.rs_decision.specs.Best.{HasDistinctPlaces, IsLevel, HasLowestMed, IsUnbeaten, BestIsUnbeaten, BestIgnoresOrder}
+use Rattle.rs_decision.specs.Best.{HasDistinctPlaces, IsLevel, HasLowestMed, IsUnbeaten, IsWithout, NoneLosesTo, BestIsUnbeaten, BestIgnoresOrder, BestStaysWithout}
 use Rattle.rs_octets.proofs.Members.{Has, has, contains, ApartBy, apart_by, only}
 use Rattle.rs_decision.proofs.Filters.{from_unbeaten, to_unbeaten, unbeaten_apart, lowest_is_least, least_is_lowest, lowest_in, lowest_same, lowest_joins, highest_is_greatest, greatest_is_highest, highest_in, highest_same, highest_joins}
 
@@ -188,3 +188,34 @@ ignores_at ranks others distinct moved (Some b) None is theirs_is =
 
 pub best_ignores_order : BestIgnoresOrder
 best_ignores_order ranks others distinct moved = ignores_at ranks others distinct moved (best_of ranks) (best_of others) refl refl
+
+-- ---- one rank less
+
+module _ (ranks others : List Rank) (x : Rank) (without : IsWithout x ranks others) (none : NoneLosesTo x others) where
+  lowest_of_all : (s : Rank) → Contains others s → HasLowestMed others s → HasLowestMed ranks s
+  lowest_of_all s hs low t ht same neighbour = elim (without.all t ht) [
+    | inl e ↦
+        let level : IsLevel x s = subst (λ (r : Rank). IsLevel r s) e same in
+        let near : x.neighbour ≡ s.neighbour = subst (λ (r : Rank). r.neighbour ≡ s.neighbour) e neighbour in
+        subst (λ (r : Rank). med_of s ≤ med_of r) (sym e) (none s hs level near)
+    | inr h ↦ low t h same neighbour
+  ]
+
+  still_unbeaten : (best : Rank) → best.place ≢ x.place → IsUnbeaten ranks best → IsUnbeaten others best
+  still_unbeaten best other u = record {
+    member = elim (without.all best u.member) [
+      | inl e ↦ absurd (other (ap (λ (r : Rank). r.place) e))
+      | inr h ↦ h
+    ];
+    preference = λ s hs. u.preference s (without.within s hs);
+    path = λ s hs. u.path s (without.within s hs);
+    origin = λ s hs. u.origin s (without.within s hs);
+    med = λ s hs. u.med s (without.within s hs);
+    identifier = λ s hs same low. u.identifier s (without.within s hs) same (lowest_of_all s hs low);
+    address = λ s hs same low. u.address s (without.within s hs) same (lowest_of_all s hs low);
+    place = λ s hs same low. u.place s (without.within s hs) same (lowest_of_all s hs low);
+  }
+
+pub best_stays_without : BestStaysWithout
+best_stays_without ranks others x best distinct without is other none =
+    ap (λ xs. slice_get xs 0) (unbeaten_is_only others best distinct (still_unbeaten ranks others x without none best other (best_is_unbeaten ranks best is)))

@@ -1,5 +1,5 @@
 -- The chosen route, said of its rivals.
-use Rattle.std.specs.Prelude.{◌≡◌, ◌≢◌, ◌≤◌, ℕ, List, [], ◌∷◌, Some, slice_get}
+use Rattle.std.specs.Prelude.{◌≡◌, ◌≢◌, ◌⊎◌, ◌≤◌, ℕ, List, [], ◌∷◌, Some, slice_get}
 use Rattle.std.specs.List.{AllPairs, Contains}
 use Rattle.std.specs.List.Sorted.{IsPermutation}
 use Rattle.rs_decision.specs.declared.rank.Rank.{Rank}
@@ -41,3 +41,18 @@ BestIsUnbeaten = (ranks : List Rank) (best : Rank) → best_of ranks ≡ Some be
 -- the answer depends on the set alone, not on the order of the list
 abbrev pub BestIgnoresOrder : Type 0
 BestIgnoresOrder = (ranks others : List Rank) → HasDistinctPlaces ranks → IsPermutation ranks others → best_of ranks ≡ best_of others
+
+-- others are the ranks but for x
+pub record IsWithout (x : Rank) (ranks others : List Rank) : Type 0 where
+  pub within : (s : Rank) → Contains others s → Contains ranks s
+  pub all : (s : Rank) → Contains ranks s → (s ≡ x) ⊎ Contains others s
+
+-- no level rank of the same neighbouring AS has a higher MULTI_EXIT_DISC than x
+abbrev pub NoneLosesTo : Rank → List Rank → Type 0
+NoneLosesTo x ranks = (s : Rank) → Contains ranks s → IsLevel x s → x.neighbour ≡ s.neighbour → med_of s ≤ med_of x
+
+-- without a rank that isn't the best, and to which none loses by MULTI_EXIT_DISC, the best is the same
+abbrev pub BestStaysWithout : Type 0
+BestStaysWithout =
+    (ranks others : List Rank) (x best : Rank) → HasDistinctPlaces others → IsWithout x ranks others → best_of ranks ≡ Some best → best.place ≢ x.place → NoneLosesTo x others
+    → best_of others ≡ Some best
