@@ -33,7 +33,7 @@ def run(program, workers, members, routes, room):
             while "listening" not in (room / "out").read_text() and server.poll() is None:
                 time.sleep(0.01)
             before = time.monotonic() - began
-            own = ["--pid", str(server.pid), "--json", room / "report.json", "--phases", "a", "--timeout", "150", "--max-rss-mb", "8000"]
+            own = ["--pid", str(server.pid), "--json", room / "report.json", "--phases", "a", "--timeout", "300", "--max-rss-mb", "8000"]
             subprocess.run([RSLOAD, "run", *words, *own], stdout=subprocess.DEVNULL)
         finally:
             server.kill()
