@@ -42,7 +42,7 @@ BestIsUnbeaten = (ranks : List Rank) (best : Rank) → best_of ranks ≡ Some be
 abbrev pub BestIgnoresOrder : Type 0
 BestIgnoresOrder = (ranks others : List Rank) → HasDistinctPlaces ranks → IsPermutation ranks others → best_of ranks ≡ best_of others
 
--- others are the ranks but for x
+-- others are the ranks, of which x alone may be missing
 pub record IsWithout (x : Rank) (ranks others : List Rank) : Type 0 where
   pub within : (s : Rank) → Contains others s → Contains ranks s
   pub all : (s : Rank) → Contains ranks s → (s ≡ x) ⊎ Contains others s

@@ -1,4 +1,4 @@
-//! So many rows that lie together.
+//! Sixteen rows that lie together.
 
 ghost use Rattle.std.specs.Prelude.{◌≡◌, ◌<◌, None, Some, option_map, IfOk, IsTrue, replicate, slice_set, vec_len};
 ghost use Rattle.std.specs.Arc.{arc_value};

@@ -1,4 +1,5 @@
-//! A row as it lies in memory. There is one for each prefix and block of clients, so it takes no more than 16 octets.
+//! A row as it lies in memory. Clients that are due the same share it, and there are as many as prefixes, so it
+//! takes no more than 16 octets.
 
 ghost use Rattle.std.specs.Prelude.{◌≡◌, None, Some, option_map, IfOk, IsTrue};
 ghost use Rattle.std.specs.Arc.{arc_value};

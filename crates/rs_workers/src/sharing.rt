@@ -4,8 +4,8 @@ ghost use Rattle.std.specs.Prelude.{◌≡◌, ◌<◌, length};
 
 use rs_outlet::Outlet;
 
-/// With how many outlets on each side one shares. Of neighbours one may have announced a route itself, which another is
-/// due.
+/// With how many outlets on each side one shares. A neighbour that announced a route itself isn't due it, and has other
+/// rows there; the next one may have the same.
 const NEAR: usize = 2;
 
 /// An outlet takes over blocks of others, from one place on to before another.
