@@ -1,12 +1,12 @@
 -- The rows of blocks, one after the other, as they are read and written.
-use Rattle.std.proofs.Common.{◌≡◌, ◌<◌, ◌≤◌, ◌+◌, ◌-◌, ◌*◌, ◌/◌, ◌%◌, ℕ, zero, suc, Bool, true, Option, None, Some, List, [], ◌∷◌, ◌++◌, get_or, length, map, replicate, set, refl, sym, ap, ◌∙◌, arith}
+use Rattle.std.proofs.Common.{◌≡◌, ◌<◌, ◌≤◌, ◌+◌, ◌-◌, ◌*◌, ◌/◌, ◌%◌, ℕ, zero, suc, Bool, true, Option, None, Some, List, [], ◌∷◌, ◌++◌, get_or, length, map, replicate, set, refl, sym, ap, subst, ◌∙◌, arith}
 use Rattle.std.specs.Prelude.{slice_get}
 use Rattle.std.specs.Arc.{arc_value}
 use Rattle.std.specs.List.{flat_map}
 use Rattle.std.proofs.lemmas.List.{append_assoc, append-nil, length-append, length-replicate, replicate-append-replicate, set-append_left, set-append_right}
 use Rattle.std.proofs.lemmas.Option.{same_Some}
-use Rattle.rs_rows.specs.Rows.{Row, row_at, joined}
-use Rattle.rs_rows.specs.Blocks.{IsGrown, free_rows, is_own, rows_in}
+use Rattle.rs_rows.specs.Rows.{Row, IsPrepared, Listed, row_at, joined}
+use Rattle.rs_rows.specs.Blocks.{IsGrown, free_rows, is_own, listed, rows_in}
 use Rattle.rs_rows.specs.declared.part.Part.{Part}
 use Rattle.rs_rows.specs.declared.part.Part.TheVariants as part
 
@@ -23,6 +23,10 @@ sixteen (part.Shared block) = let b = arc_value block in let n = b.full in omega
 pub rows_length : (ps : List Part) → length (rows_of ps) ≡ length ps * 16
 rows_length [] = refl
 rows_length (p ∷ ps) = omega (arith, length-append (rows_in p) (rows_of ps), sixteen p, rows_length ps)
+
+-- the block of a number that has a row is there
+pub block_below : (ps : List Part) (rows : Listed) (n : ℕ) → listed ps ≡ rows → n < length rows.items → n / 16 < length ps
+block_below ps rows n is below = omega (arith, below, rows_length ps, ap (λ (v : Listed). length v.items) is)
 
 -- ---- a row read
 
@@ -88,33 +92,28 @@ set_within (o ∷ ps) (suc k) j n p q x at is below new =
     ap (λ xs. rows_in o ++ xs) (set_within ps k j (n - 16) p q x (omega (arith, at)) is below new)
     ∙ sym (set-append_right (rows_in o) (rows_of ps) 16 n x (sixteen o) (omega (arith, at)))
 
-pub row_set : (ps : List Part) (n : ℕ) (p q : Part) (x : Option Row) → slice_get ps (n / 16) ≡ Some p → rows_in q ≡ set (rows_in p) (n % 16) x → rows_of (set ps (n / 16) q) ≡ set (rows_of ps) n x
+row_set : (ps : List Part) (n : ℕ) (p q : Part) (x : Option Row) → slice_get ps (n / 16) ≡ Some p → rows_in q ≡ set (rows_in p) (n % 16) x → rows_of (set ps (n / 16) q) ≡ set (rows_of ps) n x
 row_set ps n p q x is new = set_within ps (n / 16) (n % 16) n p q x (parts_of n) is (within n) new
 
 -- another block of the same rows
-pub same_set : (ps : List Part) (k : ℕ) (p q : Part) → slice_get ps k ≡ Some p → rows_in q ≡ rows_in p → rows_of (set ps k q) ≡ rows_of ps
+same_set : (ps : List Part) (k : ℕ) (p q : Part) → slice_get ps k ≡ Some p → rows_in q ≡ rows_in p → rows_of (set ps k q) ≡ rows_of ps
 same_set [] k p q is same = refl
 same_set (o ∷ ps) zero p q is same = ap (λ xs. xs ++ rows_of ps) (same ∙ ap rows_in (sym (same_Some o p is)))
 same_set (o ∷ ps) (suc k) p q is same = ap (λ xs. rows_in o ++ xs) (same_set ps k p q is same)
 
 -- ---- what is prepared
 
-pub own_within : (ps : List Part) (k : ℕ) → slice_get (map is_own ps) k ≡ Some true → k < length ps
+own_within : (ps : List Part) (k : ℕ) → slice_get (map is_own ps) k ≡ Some true → k < length ps
 own_within [] k is = absurd (let f : ◌≡◌ {A = Option Bool} None (Some true) = is in cc)
 own_within (p ∷ ps) zero is = omega arith
 own_within (p ∷ ps) (suc k) is = let rest = own_within ps k is in omega (arith, rest)
-
-pub own_at : (ps : List Part) (k : ℕ) (p : Part) → slice_get (map is_own ps) k ≡ Some true → slice_get ps k ≡ Some p → is_own p ≡ true
-own_at [] k p own is = absurd (let f : ◌≡◌ {A = Option Bool} None (Some true) = own in cc)
-own_at (o ∷ ps) zero p own is = ap is_own (sym (same_Some o p is)) ∙ same_Some (is_own o) true own
-own_at (o ∷ ps) (suc k) p own is = own_at ps k p own is
 
 pub own_there : (ps : List Part) (k : ℕ) (p : Part) → slice_get ps k ≡ Some p → is_own p ≡ true → slice_get (map is_own ps) k ≡ Some true
 own_there [] k p is own = absurd (let f : ◌≡◌ {A = Option Part} None (Some p) = is in cc)
 own_there (o ∷ ps) zero p is own = ap (λ b. Some b) (ap is_own (same_Some o p is) ∙ own)
 own_there (o ∷ ps) (suc k) p is own = own_there ps k p is own
 
-pub own_same : (ps : List Part) (k : ℕ) (q : Part) → is_own q ≡ true → slice_get (map is_own ps) k ≡ Some true → map is_own (set ps k q) ≡ map is_own ps
+own_same : (ps : List Part) (k : ℕ) (q : Part) → is_own q ≡ true → slice_get (map is_own ps) k ≡ Some true → map is_own (set ps k q) ≡ map is_own ps
 own_same [] k q new own = refl
 own_same (o ∷ ps) zero q new own = ap (λ b. b ∷ map is_own ps) (new ∙ sym (same_Some (is_own o) true own))
 own_same (o ∷ ps) (suc k) q new own = ap (λ bs. is_own o ∷ bs) (own_same ps k q new own)
@@ -131,14 +130,37 @@ own_kept (o ∷ ps) zero (suc m) q new own = own
 own_kept (o ∷ ps) (suc k) zero q new own = own
 own_kept (o ∷ ps) (suc k) (suc m) q new own = own_kept ps k m q new own
 
+-- ---- a block in place of another, as it is seen
+
+abbrev PreparedAt : Listed → ℕ → Type 0
+PreparedAt rows n = IsPrepared rows.prepared n
+
+module _ (ps : List Part) (rows : Listed) (is : listed ps ≡ rows) where
+  own_still : (n : ℕ) → PreparedAt rows n → slice_get (map is_own ps) (n / 16) ≡ Some true
+  own_still n prepared = subst (λ (v : Listed). PreparedAt v n) (sym is) prepared
+
+  -- what was prepared is there
+  pub part_prepared : (n : ℕ) (p : Part) → PreparedAt rows n → p ≡ get_or ps (n / 16) p → slice_get ps (n / 16) ≡ Some p
+  part_prepared n p prepared at = some_part ps (n / 16) p (own_within ps (n / 16) (own_still n prepared)) at
+
+  -- one row is another
+  pub row_written : (n : ℕ) (p q : Part) (x : Option Row) → PreparedAt rows n → p ≡ get_or ps (n / 16) p → rows_in q ≡ set (rows_in p) (n % 16) x → rows_of (set ps (n / 16) q) ≡ set rows.items n x
+  row_written n p q x prepared at new =
+      row_set ps n p q x (part_prepared n p prepared at) new ∙ ap (λ (v : Listed). set v.items n x) is
+
+  -- the same blocks are prepared
+  pub prepared_still : (n : ℕ) (q : Part) → PreparedAt rows n → is_own q ≡ true → map is_own (set ps (n / 16) q) ≡ rows.prepared
+  prepared_still n q prepared own = own_same ps (n / 16) q own (own_still n prepared) ∙ ap (λ (v : Listed). v.prepared) is
+
+  -- all rows are as they were
+  pub rows_still : (k : ℕ) (p q : Part) → k < length ps → p ≡ get_or ps k p → rows_in q ≡ rows_in p → rows_of (set ps k q) ≡ rows.items
+  rows_still k p q below at same = same_set ps k p q (some_part ps k p below at) same ∙ ap (λ (v : Listed). v.items) is
+
 -- ---- a free block more
 
 pub rows_more : (ps : List Part) → rows_of (ps ++ part.Free ∷ []) ≡ rows_of ps ++ free_rows
 rows_more [] = append-nil free_rows
 rows_more (p ∷ ps) = ap (λ xs. rows_in p ++ xs) (rows_more ps) ∙ sym (append_assoc (rows_in p) (rows_of ps) free_rows)
-
-pub grown_none : (xs : List (Option Row)) → IsGrown xs xs
-grown_none xs = (0, sym (append-nil xs))
 
 pub grown_more : (xs : List (Option Row)) (ps : List Part) → IsGrown xs (rows_of ps) → IsGrown xs (rows_of (ps ++ part.Free ∷ []))
 grown_more xs ps (k, is) = (k + 16, rows_more ps ∙ ap (λ ys. ys ++ free_rows) is ∙ append_assoc xs (replicate k None) free_rows ∙ ap (λ ys. xs ++ ys) (replicate-append-replicate k 16 None))

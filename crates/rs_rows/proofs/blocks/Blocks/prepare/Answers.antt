@@ -1,31 +1,25 @@
-use Rattle.std.proofs.Common.{◌≡◌, ◌<◌, Option, IfSome, true, length, refl, sym, ap, subst, ◌∙◌, ◌/◌, arith}
+use Rattle.std.proofs.Common.{◌≡◌, Option, IfSome, true, refl, sym, subst, ◌/◌, arith}
 use Rattle.rs_rows.specs.Rows.{Listed, IsPrepared}
 use Rattle.rs_rows.specs.Blocks.{is_own, rows_in}
 use Rattle.rs_rows.specs.declared.block.Block.{Block}
 use Rattle.rs_rows.specs.declared.part.Part.TheVariants as part
-use Rattle.rs_rows.proofs.Listing.{own_here, own_kept, own_there, rows_length, same_set, some_part}
+use Rattle.rs_rows.proofs.Listing.{block_below, own_here, own_kept, own_there, rows_still, some_part}
 use Rattle.rs_rows.proofs.blocks.Blocks.prepare.Goals as goal
 
 pub index-requires : goal.index-requires
 index-requires c =
-    let ps = c.self.inside.parts.items in
-    let count = rows_length ps in
-    let is = ap (λ (v : Listed). length v.items) c.self.view_is in
-    omega (arith, c.requires, count, is, c.self.inside.parts.ok)
+    let below = block_below c.self.inside.parts.items _ c.args.number c.self.view_is c.requires in
+    omega (arith, below, c.self.inside.parts.ok)
 
 pub index_mut-requires : goal.index_mut-requires
 index_mut-requires c =
-    let ps = c.self.inside.parts.items in
-    let count = rows_length ps in
-    let is = ap (λ (v : Listed). length v.items) c.self.view_is in
-    omega (arith, c.requires, count, is, c.self.inside.parts.ok)
+    let below = block_below c.self.inside.parts.items _ c.args.number c.self.view_is c.requires in
+    omega (arith, below, c.self.inside.parts.ok)
 
 pub returns-in_default-clause-prepared : goal.returns-in_default-clause-prepared
 returns-in_default-clause-prepared c =
     let ps = c.self.inside.parts.items in
-    let count = rows_length ps in
-    let is = ap (λ (v : Listed). length v.items) c.self.view_is in
-    let below : c.args.number / 16 < length ps = omega (arith, c.requires, count, is) in
+    let below = block_below ps _ c.args.number c.self.view_is c.requires in
     let own : is_own c.index.result.now ≡ true = c.in_ok-block.ensures.own c.in_default.is in
     subst (λ (v : Listed). IsPrepared v.prepared c.args.number) c.self.view_is
     (own_there ps (c.args.number / 16) c.index.result.now (some_part ps (c.args.number / 16) c.index.result.now below c.index.ensures) own)
@@ -33,20 +27,14 @@ returns-in_default-clause-prepared c =
 pub returns-clause-rows : goal.returns-clause-rows
 returns-clause-rows c =
     let ps = c.self.inside.parts.items in
-    let count = rows_length ps in
-    let is = ap (λ (v : Listed). length v.items) c.self.view_is in
-    let below : c.args.number / 16 < length ps = omega (arith, c.requires, count, is) in
-    let there = some_part ps (c.args.number / 16) c.index.result.now below c.index.ensures in
-    same_set ps (c.args.number / 16) c.index.result.now (part.Own c.in-Some.block) there (subst (λ (o : Option Block). IfSome o (λ block. block.rows.items ≡ rows_in c.index.result.now)) c.in-Some.is c.in_ok-block.ensures.rows)
-    ∙ ap (λ (v : Listed). v.items) c.self.view_is
+    let below = block_below ps _ c.args.number c.self.view_is c.requires in
+    let same = subst (λ (o : Option Block). IfSome o (λ block. block.rows.items ≡ rows_in c.index.result.now)) c.in-Some.is c.in_ok-block.ensures.rows in
+    rows_still ps _ c.self.view_is (c.args.number / 16) c.index.result.now (part.Own c.in-Some.block) below c.index.ensures same
 
 pub returns-clause-prepared : goal.returns-clause-prepared
 returns-clause-prepared c =
     let ps = c.self.inside.parts.items in
-    let count = rows_length ps in
-    let is = ap (λ (v : Listed). length v.items) c.self.view_is in
-    let below : c.args.number / 16 < length ps = omega (arith, c.requires, count, is) in
-    own_here ps (c.args.number / 16) (part.Own c.in-Some.block) refl below
+    own_here ps (c.args.number / 16) (part.Own c.in-Some.block) refl (block_below ps _ c.args.number c.self.view_is c.requires)
 
 pub returns-clause-kept : goal.returns-clause-kept
 returns-clause-kept c = λ n own.
