@@ -26,7 +26,7 @@ use rs_attrs::{Attrs, Strip};
 use rs_decision::{Rank, best};
 use rs_octets::Prefix;
 use rs_packer::fits;
-use rs_policy::{Config, Fate, is_plain_note, judge_noted, judges_alike, plain_strip};
+use rs_policy::{Config, Fate, Verdict, is_plain_note, judge_noted, judges_alike, plain_strip};
 use std::alloc::{AllocError, Global};
 use std::mem;
 use std::sync::Arc;
@@ -143,6 +143,23 @@ fn is_kept_back(sources: &Sources<'_>, holder: &Holder<'_>) -> bool
     holder.client == sources.client || holder.attrs.path_has(sources.config.server_as())
 }
 
+/// What the rules make of a holder's route on its way to the client.
+fn fate<'a>(sources: &Sources<'a>, prefix: &Prefix, holder: &Holder<'_>) -> Verdict<'a>
+    requires client { sources.now.client < length sources.now.config.now.clients }
+    requires known { holder.now.client < length sources.now.config.now.clients }
+    requires noted { holder.now.note ≡ note_of_import sources.now.config.now holder.now.client prefix.now (arc_value holder.now.attrs.now) }
+    ensures { judged result ≡ verdict sources.now.config.now holder.now.client sources.now.client prefix.now (arc_value holder.now.attrs.now) }
+{
+    judge_noted(
+        sources.config,
+        holder.client,
+        sources.client,
+        prefix,
+        holder.attrs,
+        holder.note,
+    )
+}
+
 /// The rank of a holder's route, where it is a candidate for the client.
 fn rank_to(sources: &Sources<'_>, prefix: &Prefix, holder: &Holder<'_>) -> Option<Rank>
     requires client { sources.now.client < length sources.now.config.now.clients }
@@ -154,14 +171,7 @@ fn rank_to(sources: &Sources<'_>, prefix: &Prefix, holder: &Holder<'_>) -> Optio
     if is_kept_back(sources, holder) {
         return None;
     }
-    match judge_noted(
-        sources.config,
-        holder.client,
-        sources.client,
-        prefix,
-        holder.attrs,
-        holder.note,
-    ) {
+    match fate(sources, prefix, holder) {
         Fate::Drop => None,
         Fate::Pass { preference, .. } => Some(rank(sources, holder, preference)),
     }
@@ -218,14 +228,7 @@ fn pass_by_rules<'a>(
     requires noted { holder.now.note ≡ note_of_import sources.now.config.now holder.now.client prefix.now (arc_value holder.now.attrs.now) }
     ensures { IfOk result (λ passed. option_map attributes_passed passed ≡ passed_on (arc_value holder.now.attrs.now) (verdict sources.now.config.now holder.now.client sources.now.client prefix.now (arc_value holder.now.attrs.now))) }
 {
-    match judge_noted(
-        sources.config,
-        holder.client,
-        sources.client,
-        prefix,
-        holder.attrs,
-        holder.note,
-    ) {
+    match fate(sources, prefix, holder) {
         Fate::Drop => Ok(None),
         Fate::Pass { strip, .. } => Ok(Some(strip_from(number, holder.attrs, &strip, stripped)?)),
     }
