@@ -12,5 +12,6 @@ pub mod Rests
 pub mod Memo
 pub mod OthersAlone
 pub mod Shared
+pub mod Lent
 pub mod Counting
 pub mod Left

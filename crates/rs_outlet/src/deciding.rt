@@ -13,7 +13,7 @@ ghost use Rattle.rs_outlet.specs.Decided.Due.{Held, rank_of, rank_to, ranks_amon
 ghost use Rattle.rs_outlet.specs.Decided.HeldBy.{held_by, AreOfOneServer};
 ghost use Rattle.rs_octets.specs.Prefixes.{Prefix};
 ghost use Rattle.rs_attrs.specs.Meaning.{Attribute};
-ghost use Rattle.rs_outlet.specs.Decided.Choices.{AreChoices, chosen};
+ghost use Rattle.rs_outlet.specs.Decided.Choices.{AreChoices, AreJudgedAlike, IsAloneOfItsAs, chosen};
 ghost use Rattle.rs_outlet.specs.Decided.Memo.{IsMemo};
 ghost use Rattle.rs_outlet.specs.Decided.Passing.{attributes_passed, due_alone, is_kept_back, passed_fitting};
 
@@ -344,16 +344,49 @@ fn choose(
     }
 }
 
-/// Whether the choice at the prefix of a number serves other clients too: the client has no export rules, and no route
-/// for the prefix itself.
-fn is_shared(sources: &Sources<'_>, number: u32) -> bool
-    requires server { AreOfOneServer sources.now }
+/// Whether none but the client is of its AS among these holders, so that MULTI_EXIT_DISC of its own route tells against none
+/// of the others (RFC 4271, 9.1.2.2 c).
+fn is_alone_of_its_as(sources: &Sources<'_>, holders: Holders<'_>) -> bool
+    requires client { sources.now.client < length sources.now.config.now.clients }
+    requires known { All (λ h. h.0.0 < length sources.now.config.now.clients) holders }
+    ensures { IsTrue result → IsAloneOfItsAs (held_by sources.now) sources.now.client (map (λ h. h.0) holders.entry) }
+{
+    let own = sources.config.client_as(sources.client);
+    for holder in holders {
+        if holder.client != sources.client && sources.config.client_as(holder.client) == own {
+            return false;
+        }
+    }
+    true
+}
+
+/// Whether the client has no route for the prefix of a number.
+fn is_absent(sources: &Sources<'_>, number: u32) -> bool
     ensures { IsTrue result → (p : Prefix) → number_of sources.now.ins.now p ≡ Some number → held_of sources.now.ins.now sources.now.client p ≡ None }
 {
-    if !judges_alike(sources.config, sources.client, sources.client) {
-        return false;
-    }
     sources.ins.noted_at(sources.client, number).is_none()
+}
+
+/// Whether the client has the choice of those that are judged alike and have no route for the prefix: it has none either, or
+/// another's route was chosen, and nothing depends on its own.
+fn has_choice_of_others(
+    sources: &Sources<'_>,
+    number: u32,
+    prefix: &Prefix,
+    place: Option<usize>,
+) -> bool
+    requires number { number_of sources.now.ins.now prefix.now ≡ Some number }
+    requires server { AreOfOneServer sources.now }
+    ensures { IsTrue result → (other : ℕ) → AreJudgedAlike (held_by sources.now) other sources.now.client → held_of sources.now.ins.now other prefix.now ≡ None → chosen (held_by sources.now) other prefix.now ≡ place → chosen (held_by sources.now) sources.now.client prefix.now ≡ place }
+{
+    let holders = sources.ins.at_number(number);
+    if is_absent(sources, number) {
+        return true;
+    }
+    match place {
+        Some(best) if best != sources.client => is_alone_of_its_as(sources, holders),
+        _ => false,
+    }
 }
 
 /// The choice that was made for a client before, if it is this one's too.
@@ -365,8 +398,6 @@ fn chosen_before(
 ) -> Option<Choice>
     requires number { number_of sources.now.ins.now prefix.now ≡ Some number }
     requires server { AreOfOneServer sources.now }
-    requires absent { held_of sources.now.ins.now sources.now.client prefix.now ≡ None }
-    requires holders { (held : List (ℕ × List Attribute)) × ListsHolders sources.now.ins.now prefix.now held }
     requires choices { AreChoices (held_by sources.now) sources.now.ins.now choices.old.kept.items }
     ensures chosen { IfSome result (λ choice. choice.place ≡ chosen (held_by sources.now) sources.now.client prefix.now) }
     ensures kept { choices.new.kept.items ≡ choices.old.kept.items }
@@ -374,14 +405,18 @@ fn chosen_before(
     let Some(choice) = choices.find(number) else {
         return None;
     };
-    if judges_alike(sources.config, choice.client, sources.client) {
+    if !judges_alike(sources.config, choice.client, sources.client) {
+        return None;
+    }
+    if has_choice_of_others(sources, number, prefix, choice.place) {
         Some(choice)
     } else {
         None
     }
 }
 
-/// Whose route is the best, found once for all clients that are decided alike.
+/// Whose route is the best, found once for all clients that are decided alike: those without export rules. It is kept where the
+/// client has no route for the prefix itself.
 fn choose_once(
     sources: &Sources<'_>,
     number: u32,
@@ -398,18 +433,20 @@ fn choose_once(
     ensures choices { OnOk result (AreChoices (held_by sources.now) sources.now.ins.now draft.new.choices.kept.items) }
     ensures memo { draft.new.memo ≡ draft.old.memo }
 {
-    if !is_shared(sources, number) {
+    if !judges_alike(sources.config, sources.client, sources.client) {
         return choose(sources, prefix, holders, &mut draft.ranks);
     }
     if let Some(choice) = chosen_before(sources, number, prefix, &mut draft.choices) {
         return Ok(choice.place);
     }
     let place = choose(sources, prefix, holders, &mut draft.ranks)?;
-    draft.choices.keep(Choice {
-        number,
-        client: sources.client,
-        place,
-    });
+    if is_absent(sources, number) {
+        draft.choices.keep(Choice {
+            number,
+            client: sources.client,
+            place,
+        });
+    }
     Ok(place)
 }
 

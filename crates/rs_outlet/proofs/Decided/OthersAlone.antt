@@ -31,7 +31,7 @@ own_left t c p None hs = refl
 own_left t c p (Some m) hs = ap (λ o. cons_option o (ranks_among t c p hs)) (own_none t c p m)
 
 -- so no candidate's place is the client
-not_own : (t : Held) (c : ℕ) (p : Prefix) (h : ℕ × List Attribute) (r : Rank) → rank_to t c p h ≡ Some r → r.place ≢ c
+pub not_own : (t : Held) (c : ℕ) (p : Prefix) (h : ℕ × List Attribute) (r : Rank) → rank_to t c p h ≡ Some r → r.place ≢ c
 not_own t c p h r is = λ same.
     let k : h.0 ≡ c = sym (rank_place t c p h r is) ∙ same in
     absurd (let f : None ≡ Some r = sym (own_none t c p h.1) ∙ ap (λ n. rank_to t c p (n, h.1)) (sym k) ∙ is in (cc))

@@ -1,5 +1,5 @@
 -- Clients without a route for a prefix, for whom the rules judge alike, have one choice there.
-use Rattle.std.proofs.Common.{◌≡◌, ◌≢◌, ◌<◌, ◌==◌, ◌||◌, ℕ, false, cond, Option, None, Some, List, [], ◌∷◌, ◌++◌, inl, inr, option_map, refl, subst, sym, ap, ◌∙◌, arith}
+use Rattle.std.proofs.Common.{◌≡◌, ◌≢◌, ◌<◌, ◌==◌, ◌||◌, ℕ, false, cond, Option, None, Some, List, [], ◌∷◌, ◌++◌, length, inl, inr, option_map, refl, subst, sym, ap, ◌∙◌, arith}
 use Rattle.std.specs.Prelude.{Contains, option_and_then, unwrap_or}
 use Rattle.std.specs.List.{All, AllByRecursion, cons_option}
 use Rattle.std.proofs.lemmas.Bool.Decides.{nat_tests}
@@ -7,7 +7,6 @@ use Rattle.std.proofs.lemmas.List.Elements.{All-from_recursion, recursion_from_A
 use Rattle.rs_octets.specs.Prefixes.{Prefix}
 use Rattle.rs_attrs.specs.Meaning.{Attribute}
 use Rattle.rs_attrs.specs.Getters.{path_has_of}
-use Rattle.rs_policy.specs.Verdicts.{verdict}
 use Rattle.rs_decision.proofs.Chosen.{best_is_unbeaten}
 use Rattle.rs_decision.specs.Choice.{best_of}
 use Rattle.rs_decision.specs.declared.rank.Rank.{Rank}
@@ -16,7 +15,7 @@ use Rattle.rs_outlet.specs.Decided.Due.{Held, due_to, holders_at, rank_by, rank_
 use Rattle.rs_outlet.proofs.Decided.Ranks.{each_place, passed_from}
 use Rattle.rs_adjin.specs.declared.adj_ins.AdjIns.{AdjIns}
 use Rattle.rs_outlet.specs.declared.choices.Choice.{Choice}
-use Rattle.rs_outlet.specs.Decided.Choices.{AreChoices, IsChoice, MayKeep, chosen}
+use Rattle.rs_outlet.specs.Decided.Choices.{AreChoices, AreJudgedAlike, IsChoice, MayKeep, chosen}
 
 -- the choice is that of the ranks
 pub chosen_by : (t : Held) (c : ℕ) (p : Prefix) (hs : List (ℕ × List Attribute)) (ranks : List Rank) (best : Option Rank) → hs ≡ holders_at t p → ranks ≡ ranks_among t c p hs → best_of ranks ≡ best
@@ -29,31 +28,27 @@ differs : (a c : ℕ) → a ≢ c → (a == c) ≡ false
 differs a c other = grind (arith, nat_tests, other)
 
 -- who holds nothing is none of the holders
-not_it : {X : Type 0} (held : ℕ → Option X) (a c : ℕ) (m : X) → held a ≡ Some m → held c ≡ None → a ≢ c
+pub not_it : {X : Type 0} (held : ℕ → Option X) (a c : ℕ) (m : X) → held a ≡ Some m → held c ≡ None → a ≢ c
 not_it held a c m there none = λ same. absurd (let f : None ≡ Some m = sym none ∙ ap held (sym same) ∙ there in (cc))
 
--- the rules judge alike for both
-abbrev pub JudgeAlike : Held → ℕ → ℕ → ℕ → Type 0
-JudgeAlike t n c d = (from : ℕ) (p : Prefix) (m : List Attribute) → from < n → verdict t.settings from c p m ≡ verdict t.settings from d p m
-
-rank_alike : (t : Held) (n c d : ℕ) (p : Prefix) (h : ℕ × List Attribute) → JudgeAlike t n c d → h.0 < n → h.0 ≢ c → h.0 ≢ d → rank_to t c p h ≡ rank_to t d p h
-rank_alike t n c d p h alike known one other = λ i.
+pub rank_alike : (t : Held) (c d : ℕ) (p : Prefix) (h : ℕ × List Attribute) → AreJudgedAlike t c d → h.0 < length t.settings.clients → h.0 ≢ c → h.0 ≢ d → rank_to t c p h ≡ rank_to t d p h
+rank_alike t c d p h alike known one other = λ i.
     cond (((differs h.0 c one ∙ sym (differs h.0 d other)) i) || path_has_of t.settings.top.server_as h.1) None (rank_by t h.0 h.1 (alike h.0 p h.1 known i))
 
-ranks_alike : (t : Held) (n c d : ℕ) (p : Prefix) (hs : List (ℕ × List Attribute)) → JudgeAlike t n c d → t.held c p ≡ None → t.held d p ≡ None
-    → AllByRecursion (λ h. h.0 < n) hs → AllByRecursion (λ h. t.held h.0 p ≡ Some h.1) hs → ranks_among t c p hs ≡ ranks_among t d p hs
-ranks_alike t n c d p [] alike none nor known each = refl
-ranks_alike t n c d p (h ∷ hs) alike none nor known each = λ i.
+ranks_alike : (t : Held) (c d : ℕ) (p : Prefix) (hs : List (ℕ × List Attribute)) → AreJudgedAlike t c d → t.held c p ≡ None → t.held d p ≡ None
+    → AllByRecursion (λ h. h.0 < length t.settings.clients) hs → AllByRecursion (λ h. t.held h.0 p ≡ Some h.1) hs → ranks_among t c p hs ≡ ranks_among t d p hs
+ranks_alike t c d p [] alike none nor known each = refl
+ranks_alike t c d p (h ∷ hs) alike none nor known each = λ i.
     cons_option
-    (rank_alike t n c d p h alike known.0 (not_it (λ k. t.held k p) h.0 c h.1 each.0 none) (not_it (λ k. t.held k p) h.0 d h.1 each.0 nor) i)
-    (ranks_alike t n c d p hs alike none nor known.1 each.1 i)
+    (rank_alike t c d p h alike known.0 (not_it (λ k. t.held k p) h.0 c h.1 each.0 none) (not_it (λ k. t.held k p) h.0 d h.1 each.0 nor) i)
+    (ranks_alike t c d p hs alike none nor known.1 each.1 i)
 
-pub same_choice : (t : Held) (n c d : ℕ) (p : Prefix) (hs : List (ℕ × List Attribute)) → hs ≡ holders_at t p → JudgeAlike t n c d → t.held c p ≡ None → t.held d p ≡ None
-    → All (λ h. h.0 < n) hs → All (λ h. t.held h.0 p ≡ Some h.1) hs → chosen t c p ≡ chosen t d p
-same_choice t n c d p hs all alike none nor known each =
+pub same_choice : (t : Held) (c d : ℕ) (p : Prefix) (hs : List (ℕ × List Attribute)) → hs ≡ holders_at t p → AreJudgedAlike t c d → t.held c p ≡ None → t.held d p ≡ None
+    → All (λ h. h.0 < length t.settings.clients) hs → All (λ h. t.held h.0 p ≡ Some h.1) hs → chosen t c p ≡ chosen t d p
+same_choice t c d p hs all alike none nor known each =
     let f = λ (hs : List (ℕ × List Attribute)) (k : ℕ). option_map (λ (r : Rank). r.place) (best_of (ranks_among t k p hs)) in
     ap (λ hs. f hs c) (sym all)
-    ∙ ap (λ ranks. option_map (λ (r : Rank). r.place) (best_of ranks)) (ranks_alike t n c d p hs alike none nor (recursion_from_All (λ h. h.0 < n) hs known) (recursion_from_All (λ h. t.held h.0 p ≡ Some h.1) hs each))
+    ∙ ap (λ ranks. option_map (λ (r : Rank). r.place) (best_of ranks)) (ranks_alike t c d p hs alike none nor (recursion_from_All (λ h. h.0 < length t.settings.clients) hs known) (recursion_from_All (λ h. t.held h.0 p ≡ Some h.1) hs each))
     ∙ ap (λ hs. f hs d) all
 
 one_more : (t : Held) (ins : AdjIns) (choice : Choice) (kept : List Choice) → AreChoices t ins kept → IsChoice t ins choice → AreChoices t ins (kept ++ choice ∷ [])

@@ -1,9 +1,12 @@
 -- The choice at a prefix, and the choices that are kept in a turn.
-use Rattle.std.specs.Prelude.{◌≡◌, ◌⊎◌, ◌<◌, ℕ, List, [], ◌∷◌, ◌++◌, Option, None, option_map, length, Some}
-use Rattle.std.specs.List.{AllByRecursion}
+use Rattle.std.specs.Prelude.{◌≡◌, ◌≢◌, ◌⊎◌, ◌<◌, ℕ, List, [], ◌∷◌, ◌++◌, Option, None, option_map, length, Some}
+use Rattle.std.specs.List.{All, AllByRecursion}
+use Rattle.rs_attrs.specs.Meaning.{Attribute}
 use Rattle.rs_octets.specs.Prefixes.{Prefix}
 use Rattle.rs_adjin.specs.AdjIns.{number_of}
 use Rattle.rs_adjin.specs.declared.adj_ins.AdjIns.{AdjIns}
+use Rattle.rs_policy.specs.Configuration.{client_of}
+use Rattle.rs_policy.specs.Verdicts.{verdict}
 use Rattle.rs_decision.specs.Choice.{best_of}
 use Rattle.rs_outlet.specs.declared.choices.Choice.{Choice}
 use Rattle.rs_outlet.specs.Decided.Due.{Held, holders_at, ranks_among}
@@ -11,6 +14,14 @@ use Rattle.rs_outlet.specs.Decided.Due.{Held, holders_at, ranks_among}
 -- the sender of the best candidate's route for a client at a prefix
 abbrev pub chosen : Held → ℕ → Prefix → Option ℕ
 chosen t c p = option_map (λ best. best.place) (best_of (ranks_among t c p (holders_at t p)))
+
+-- the rules judge each route alike on its way to both
+abbrev pub AreJudgedAlike : Held → ℕ → ℕ → Type 0
+AreJudgedAlike t c d = (from : ℕ) (p : Prefix) (m : List Attribute) → from < length t.settings.clients → verdict t.settings from c p m ≡ verdict t.settings from d p m
+
+-- no other one of these holders is of the client's AS
+abbrev pub IsAloneOfItsAs : Held → ℕ → List (ℕ × List Attribute) → Type 0
+IsAloneOfItsAs t c holders = All (λ h. h.0 ≢ c → (client_of t.settings h.0).client_as ≢ (client_of t.settings c).client_as) holders
 
 -- a choice is that of its client, which has no route for the prefix itself
 pub record IsChoice (t : Held) (ins : AdjIns) (choice : Choice) : Type 0 where
