@@ -28,6 +28,7 @@ ASKING = (
     "outlet::asking::a_message_of_a_client_that_took_none",
     "outlet::asking::all_again",
     "outlet::asking::touches_and_the_end_of_a_session",
+    "outlet::asking::rows_of_another_in_place_of_the_same",
     "route_server::asking::what_is_lent_behind_two_turns",
     "route_server::asking::a_refresh",
     "route_server::asking::how_a_session_begins_and_ends",

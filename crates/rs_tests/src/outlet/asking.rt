@@ -1,12 +1,13 @@
 //! Calls that take no memory. What counts their requests for it stands outside the program:
 //! `tools/plays/without_memory.py` runs these tests, and wants none between two lines that they print.
 
-use super::{Exchange, change, decided, drain, is_drained, let_go};
-use crate::common::{from_here, to_here};
+use super::{Exchange, all, change, decided, drain, is_drained, let_go, prefix};
+use crate::common::{equals, from_here, to_here};
 use rs_open::Short;
 use rs_outlet::Outlet;
 use std::alloc::Global;
 use std::process::Abort;
+use std::sync::Arc;
 
 /// Takes the octets of one message.
 fn take(exchange: &Exchange, outlet: &mut Outlet) {
@@ -100,4 +101,26 @@ fn touches_and_the_end_of_a_session(rt: HostRuntime) {
     outlet.clear();
     to_here(&rt);
     let_go(exchange, outlet);
+}
+
+/// How many owners the attributes have that the client is due for the first prefix.
+fn owners(rt: &impl Abort, exchange: &Exchange, outlet: &Outlet) -> usize {
+    let attrs = outlet.route(&prefix(rt, 0), &exchange.tables);
+    Arc::strong_count(attrs.expect(rt, "a route"))
+}
+
+/// The first prefix has the attributes of 30 rows, which are given up.
+#[test]
+fn rows_of_another_in_place_of_the_same(rt: HostRuntime) {
+    let (exchange, mut first) = decided(&rt, rt.alloc(), 60);
+    let mut alike = exchange.outlet(&rt);
+    exchange.decides(&rt, &mut alike, all(60));
+    first.settle();
+    let before = owners(&rt, &exchange, &alike);
+    from_here(&rt);
+    alike.adopt(&first);
+    to_here(&rt);
+    let given_up = before.saturating_sub(owners(&rt, &exchange, &alike));
+    equals(&rt, given_up, 30);
+    let_go(exchange, first);
 }
