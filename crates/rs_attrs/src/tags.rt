@@ -1,6 +1,6 @@
 //! The communities of a route, found once for many tests.
 
-ghost use Rattle.std.specs.Prelude.{◌≡◌};
+ghost use Rattle.std.specs.Prelude.{◌≡◌, false, IsTrue};
 ghost use Rattle.std.specs.List.{list_any};
 ghost use Rattle.std.proofs.Props.{props};
 ghost use Rattle.rs_attrs.specs.Marks.{AreLargeMarked, AreMarked};
@@ -65,13 +65,35 @@ impl<'a> Tags<'a> {
         }
     }
 
-    /// Whether there is a community like this (RFC 1997).
-    pub fn has_community_like(&self, pattern: &CommunityPattern) -> bool
-        ensures { result ≡ list_any (is_like pattern.now) (tagged self.now) }
+    /// Whether the marks tell that no community is like this: none has its first part.
+    pub fn lacks_community_like(&self, pattern: &CommunityPattern) -> bool
+        ensures { IsTrue result → list_any (is_like pattern.now) (tagged self.now) ≡ false }
     {
         if let Some(high) = pattern.high
             && !self.highs[(high % MARKS) as usize]
         {
+            return true;
+        }
+        false
+    }
+
+    /// Whether the marks tell that no large community is like this: none has its Global Administrator.
+    pub fn lacks_large_community_like(&self, pattern: &LargeCommunityPattern) -> bool
+        ensures { IsTrue result → list_any (is_like_large pattern.now) (large_tagged self.now) ≡ false }
+    {
+        if let Some(global) = pattern.global
+            && !self.globals[(global % MARKS) as usize]
+        {
+            return true;
+        }
+        false
+    }
+
+    /// Whether there is a community like this (RFC 1997).
+    pub fn has_community_like(&self, pattern: &CommunityPattern) -> bool
+        ensures { result ≡ list_any (is_like pattern.now) (tagged self.now) }
+    {
+        if self.lacks_community_like(pattern) {
             return false;
         }
         Numbers::of(self.communities).any(|community| pattern.fits(community))
@@ -81,9 +103,7 @@ impl<'a> Tags<'a> {
     pub fn has_large_community_like(&self, pattern: &LargeCommunityPattern) -> bool
         ensures { result ≡ list_any (is_like_large pattern.now) (large_tagged self.now) }
     {
-        if let Some(global) = pattern.global
-            && !self.globals[(global % MARKS) as usize]
-        {
+        if self.lacks_large_community_like(pattern) {
             return false;
         }
         LargeCommunities::of(self.large).any(|community| pattern.fits(community))

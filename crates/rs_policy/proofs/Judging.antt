@@ -6,3 +6,4 @@ pub mod WithoutRules
 pub mod Placed
 pub mod Noted
 pub mod Prefixes
+pub mod PassedOver

@@ -28,4 +28,4 @@ pub use keys::{is_known, known_keys};
 pub use rules::alike::{judges_alike, judges_prefixes_alike, passes_plainly};
 pub use rules::noting::{import_note, is_plain_note, judge_noted};
 pub use rules::reasons::{Decider, Reasons, reasons_for};
-pub use rules::verdict::{Fate, Verdict, judge, plain_strip};
+pub use rules::verdict::{Fate, Verdict, judge};

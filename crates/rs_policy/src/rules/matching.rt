@@ -1,10 +1,10 @@
 //! Which routes a rule matches.
 
-ghost use Rattle.std.specs.Prelude.{◌≡◌, ◌≤◌};
+ghost use Rattle.std.specs.Prelude.{◌≡◌, ◌≤◌, List, false, IsTrue};
 ghost use Rattle.std.specs.List.{list_any};
 ghost use Rattle.rs_attrs.specs.Getters.{path_of};
 ghost use Rattle.rs_policy.specs.Verdicts.{attributes_match, front, has_as, has_prefix, in_range, matches, next_hop_is_peer, origin_as_is, origin_in, path_in, path_matches, first_as, first_as_is_peer, has_community, has_large_community};
-ghost use Rattle.rs_policy.specs.Configuration.{list_at};
+ghost use Rattle.rs_policy.specs.Configuration.{NamedList, list_at};
 ghost use Rattle.rs_policy.specs.Judged.{offered};
 
 use crate::config::named_lists::NamedList;
@@ -179,9 +179,41 @@ fn attributes_match(lists: &[NamedList], tests: &Tests, offer: &Offer<'_, '_>) -
     path_matches(lists, tests, offer)
 }
 
-/// Whether a rule matches a route: all of its tests hold, those that walk the attributes last.
-#[tactic(auto, unfolding(crate::specs::Verdicts::matches))]
+/// Whether a rule asks for a community that the route surely hasn't: that is told without looking at one, and most rules of an
+/// exchange end here.
+fn is_passed_over(rule: &Rule, offer: &Offer<'_, '_>) -> bool
+    ensures { IsTrue result → (lists : List NamedList) → matches lists rule.now (offered offer.now) ≡ false }
+{
+    if let Some(test) = rule.tests.community
+        && offer
+            .tags
+            .lacks_community_like(&test.pattern_for(offer.to_as))
+    {
+        return true;
+    }
+    if let Some(test) = rule.tests.large_community
+        && offer
+            .tags
+            .lacks_large_community_like(&test.pattern_for(offer.to_as))
+    {
+        return true;
+    }
+    false
+}
+
+/// Whether a rule matches a route: all of its tests hold.
 pub(super) fn matches(lists: &[NamedList], rule: &Rule, offer: &Offer<'_, '_>) -> bool
+    ensures { result ≡ matches lists.now rule.now (offered offer.now) }
+{
+    if is_passed_over(rule, offer) {
+        return false;
+    }
+    all_hold(lists, rule, offer)
+}
+
+/// Whether all tests of a rule hold, those that walk the attributes last.
+#[tactic(auto, unfolding(crate::specs::Verdicts::matches))]
+fn all_hold(lists: &[NamedList], rule: &Rule, offer: &Offer<'_, '_>) -> bool
     ensures { result ≡ matches lists.now rule.now (offered offer.now) }
 {
     let tests = &rule.tests;

@@ -172,7 +172,7 @@ pub(super) fn passes(
 }
 
 /// What is taken out of a route that both lists pass plainly: nothing.
-pub fn plain_strip<'a>() -> Strip<'a>
+fn plain_strip<'a>() -> Strip<'a>
     ensures { joined (Some plainly) (Some plainly) ≡ passed 100 (taken_by result) }
 {
     Strip {

@@ -1,4 +1,4 @@
-use Rattle.std.proofs.Common.{◌≡◌, ◌<◌, ◌/◌, ◌%◌, true, length, sym, subst, arith, ◌∙◌}
+use Rattle.std.proofs.Common.{◌<◌, ◌%◌, true, length, sym, subst, arith, ◌∙◌}
 use Rattle.std.proofs.lemmas.List.{length-set}
 use Rattle.rs_attrs.specs.Marks.{AreLargeMarked}
 use Rattle.rs_attrs.proofs.Marks.{one_marked, one_more}
