@@ -1,7 +1,7 @@
 -- Rows of the table of sets: added, written and given up.
 use Rattle.std.proofs.Common.{Bool, true, false, cond, ◌≡◌, ◌≢◌, ◌<◌, ◌++◌, ℕ, zero, suc, List, [], ◌∷◌, length, refl, sym, ◌∙◌, ap, subst, ◌⊎◌, inl, inr}
 use Rattle.std.specs.Prelude.{Option, Some, None, slice_get, slice_set, slice_index_or, if◌then◌else◌}
-use Rattle.std.specs.BTreeMap.{BTreeMap, get, is_at}
+use Rattle.std.specs.BTreeMap.{BTreeMap, get, get_by, is_at}
 use Rattle.std.specs.Arc.{arc_value, arc_with_value}
 use Rattle.std.specs.declared.sync.Arc.{Arc}
 use Rattle.std.specs.Global.{Global}
@@ -71,6 +71,14 @@ at_hash p q = elim (attrs_is p q) [
   | inr other ↦ then_false (nat_cmp (attributes_hash p) (attributes_hash q)) (attributes_cmp p q) other ∙ sym other
 ]
 
+-- a look-up of the key of attributes is one of them
+pub found_by : (numbers : BTreeMap Key ℕ) (k : Key) (p : Attributes) → k.0 ≡ attributes_hash p → arc_value k.1 ≡ p → get key_cmp numbers k ≡ number_by numbers p
+found_by numbers k p hashed is = λ i. get_by (λ (q : Key). ordering_then (nat_cmp (hashed i) q.0) (attributes_cmp (is i) (arc_value q.1))) numbers
+
+-- a map that has at each key what it had
+pub same_numbers : (old new : BTreeMap Key ℕ) (k : Key) → ((q : Key) → get key_cmp new q ≡ get key_cmp old q) → (m : Attributes) → number_by new m ≡ number_by old m
+same_numbers old new k same m = same (attributes_hash m, arc_with_value k.1 m)
+
 -- a map written at one key
 pub writes_by : (old new : BTreeMap Key ℕ) (k : Key) (w : Option ℕ) (p : Attributes) → k.0 ≡ attributes_hash p → arc_value k.1 ≡ p → ((q : Key) → get key_cmp new q ≡ cond (is_at (key_cmp k) q) w (get key_cmp old q)) → Writes (number_by old) (number_by new) p w
 writes_by old new k w p hashed is u q =
@@ -97,6 +105,10 @@ push_here (x ∷ rows) r = push_here rows r
 
 pub inverse_same : (number : Numbers) (old new : List AttrsRow) → ((m : ℕ) → attrs_at new m ≡ attrs_at old m) → IsInverse number old → IsInverse number new
 inverse_same number old new same i = record { there = λ p n is. same n ∙ i.there p n is; back = λ p n is. i.back p n (sym (same n) ∙ is) }
+
+-- attributes that all have the numbers that they had
+pub inverse_kept : (old new : Numbers) (rows : List AttrsRow) → ((m : Attributes) → new m ≡ old m) → IsInverse old rows → IsInverse new rows
+inverse_kept old new rows same i = record { there = λ p n is. i.there p n (sym (same p) ∙ is); back = λ p n is. same p ∙ i.back p n is }
 
 -- ---- a number given
 

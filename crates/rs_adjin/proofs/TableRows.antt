@@ -123,6 +123,10 @@ push_here (x ∷ rows) r = push_here rows r
 pub inverse_same : (numbers : Numbers) (old new : List Row) → ((m : ℕ) → prefix_at new m ≡ prefix_at old m) → IsInverse numbers old → IsInverse numbers new
 inverse_same numbers old new same i = record { there = λ p n is. same n ∙ i.there p n is; back = λ p n is. i.back p n (sym (same n) ∙ is) }
 
+-- prefixes that all have the numbers that they had
+pub inverse_kept : (old new : Numbers) (rows : List Row) → ((p : Prefix) → get prefix_order new p ≡ get prefix_order old p) → IsInverse old rows → IsInverse new rows
+inverse_kept old new rows same i = record { there = λ p n is. i.there p n (sym (same p) ∙ is); back = λ p n is. same p ∙ i.back p n is }
+
 pub vacant_same : (old new : List Row) → ((m : ℕ) → prefix_at new m ≡ prefix_at old m) → ((m : ℕ) → routes_in (slice_get new m) ≡ routes_in (slice_get old m)) → AreVacant old → AreVacant new
 vacant_same old new same routes vacant m none = routes m ∙ vacant m (sym (same m) ∙ none)
 

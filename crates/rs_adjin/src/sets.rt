@@ -12,6 +12,7 @@ ghost use Rattle.rs_attrs.specs.Comparing.{attributes_hash};
 ghost use Rattle.rs_adjin.specs.Held.{one_if};
 ghost use Rattle.rs_adjin.specs.SetNumbering.{IsInverse, number_by};
 
+use crate::giving::find_or_give;
 use crate::room::make_room;
 use rs_attrs::Attrs;
 use std::alloc::{AllocError, Global};
@@ -135,27 +136,7 @@ impl Sets {
         Ok(number)
     }
 
-    /// Gives attributes that have no number one, and keeps them.
-    fn add_new(&mut self, attrs: &Arc<Attrs>) -> Result<u32, AllocError>
-        requires { set_in self.old (arc_value attrs.now) ≡ None }
-        ensures number { IfOk result (λ n. set_in self.new (arc_value attrs.now) ≡ Some n) }
-        ensures kept { KeepsSets self.old self.new }
-        ensures others { SameSetsBut (arc_value attrs.now) self.old self.new }
-        ensures err { OnErr result (SameSets self.old self.new) }
-        ensures counts { SameCounts self.old self.new }
-    {
-        let key = key_of(attrs)?;
-        let kept = attrs.clone()?;
-        let number = self.unused()?;
-        let Ok(_) = self.numbers.insert(key, number) else {
-            let _ = self.free.push(number);
-            return Err(AllocError);
-        };
-        self.rows[number as usize].attrs = Some(kept);
-        Ok(number)
-    }
-
-    /// The set of these attributes, which gets a number if it has none.
+    /// The set of these attributes, which gets a number if it has none: one search finds it, or the place where it belongs.
     pub(crate) fn share(&mut self, attrs: &Arc<Attrs>) -> Result<Shared, AllocError>
         ensures set { IfOk result (λ shared. set_in self.new (arc_value attrs.now) ≡ Some shared.set) }
         ensures attrs { IfOk result (λ shared. arc_value shared.attrs ≡ arc_value attrs.now) }
@@ -164,13 +145,28 @@ impl Sets {
         ensures err { OnErr result (SameSets self.old self.new) }
         ensures counts { SameCounts self.old self.new }
     {
-        if let Some(set) = self.number(attrs)? {
-            let attrs = self.copy_of(set, attrs)?;
-            return Ok(Shared { set, attrs });
-        }
+        let key = key_of(attrs)?;
+        let kept = attrs.clone()?;
         let copy = attrs.clone()?;
-        let set = self.add_new(attrs)?;
-        Ok(Shared { set, attrs: copy })
+        let unused = self.unused()?;
+        match find_or_give(&mut self.numbers, key, unused) {
+            Ok(None) => {
+                self.rows[unused as usize].attrs = Some(kept);
+                Ok(Shared {
+                    set: unused,
+                    attrs: copy,
+                })
+            }
+            Ok(Some(set)) => {
+                let _ = self.free.push(unused);
+                let attrs = self.copy_of(set, attrs)?;
+                Ok(Shared { set, attrs })
+            }
+            Err(refused) => {
+                let _ = self.free.push(unused);
+                Err(refused)
+            }
+        }
     }
 
     /// No attributes have this number from now on.
