@@ -13,5 +13,6 @@ pub mod Memo
 pub mod OthersAlone
 pub mod Shared
 pub mod Lent
+pub mod Plain
 pub mod Counting
 pub mod Left

@@ -22,11 +22,11 @@ use crate::choices::{Choice, Choices};
 use crate::memo::{Judged, recall};
 use crate::stripped::Stripped;
 use rs_adjin::{AdjIns, Holder, Holders};
-use rs_attrs::{Attrs, Strip};
+use rs_attrs::{Attrs, Strip, attributes_are_legal};
 use rs_decision::{Rank, best};
 use rs_octets::Prefix;
 use rs_packer::fits;
-use rs_policy::{Config, Fate, Verdict, is_plain_note, judge_noted, judges_alike, plain_strip};
+use rs_policy::{Config, Fate, Verdict, is_plain_note, judge_noted, judges_alike};
 use std::alloc::{AllocError, Global};
 use std::mem;
 use std::sync::Arc;
@@ -252,8 +252,9 @@ fn pass_on<'a>(
     ensures memo { IsMemo sources.now.config.now sources.now.client memo.new }
 {
     if sources.plain && is_plain_note(holder.note) {
-        let passed = strip_from(number, holder.attrs, &plain_strip(), stripped)?;
-        return Ok(Some(passed));
+        // for the prover: where no pattern takes anything out, they stay as they are
+        attributes_are_legal(holder.attrs);
+        return Ok(Some(Passed::Whole(holder.attrs)));
     }
     if let Some(passed) = recall(memo, holder) {
         return copied(passed);
@@ -504,6 +505,9 @@ pub(crate) fn decide<'a>(
     ensures memo { OnOk result (IsMemo sources.now.config.now sources.now.client draft.new.memo) }
 {
     let mut holders = sources.ins.at_number(number);
+    if holders.is_empty() {
+        return Ok(None);
+    }
     if holders.len() != 1 {
         return decide_among(sources, speech, number, prefix, holders, draft);
     }

@@ -196,3 +196,8 @@ senders_known n m holders same known =
     each_sender : (n : ℕ) (holders : List ((ℕ × List Attribute) × ℕ)) → AllByRecursion (λ h. h.0 < n) (sent holders) → AllByRecursion (λ h. h.0.0 < n) holders
     each_sender n [] known = tt
     each_sender n (h ∷ holders) known = (known.0, each_sender n holders known.1)
+
+-- no holder
+pub none_left : {X : Type 0} (xs : List X) → (length xs == 0) ≡ true → xs ≡ []
+none_left [] is = refl
+none_left (x ∷ xs) is = absurd (grind (arith, nat_tests, is))

@@ -1,4 +1,4 @@
-use Rattle.std.proofs.Common.{ℕ, ◌≡◌, List, ◌∷◌, [], IfOk, option_map, subst, ap}
+use Rattle.std.proofs.Common.{ℕ, ◌≡◌, List, ◌∷◌, [], IfOk, option_map, subst, sym, ap, ◌∙◌}
 use Rattle.std.specs.Arc.{arc_value}
 use Rattle.std.specs.List.{All}
 use Rattle.std.proofs.lemmas.List.Elements.{All-head}
@@ -7,7 +7,7 @@ use Rattle.rs_adjin.specs.AdjIns.{ListsHolders}
 use Rattle.rs_policy.specs.Noted.{note_of_import}
 use Rattle.rs_outlet.specs.Decided.HeldBy.{held_by}
 use Rattle.rs_outlet.specs.Decided.Passing.{attributes_passed}
-use Rattle.rs_outlet.proofs.Decided.Ranks.{alone_is_due, held_alone, one_alone, sent}
+use Rattle.rs_outlet.proofs.Decided.Ranks.{alone_is_due, due_unheld, held_alone, none_left, one_alone, sent}
 use Rattle.rs_outlet.proofs.deciding.decide.Goals as goal
 
 pub decide_alone-requires-clause-noted : goal.decide_alone-requires-clause-noted
@@ -27,3 +27,9 @@ returns-in-Some-clause-due c =
     let listed : ListsHolders ins p (h ∷ []) = subst (ListsHolders ins p) (ap sent one) (c.at_number-holders.ensures.holders p c.requires.number) in
     subst (λ m. IfOk c.decide_alone.result (λ due. option_map attributes_passed due ≡ m))
     (alone_is_due (held_by c.args.sources.now) c.args.sources.now.client c.args.speech p h listed.all (held_alone ins p h listed.each)) c.decide_alone.ensures.due
+
+pub returns-then-is_empty-clause-due : goal.returns-then-is_empty-clause-due
+returns-then-is_empty-clause-due c =
+    let listed : ListsHolders c.args.sources.now.ins.now c.args.prefix.now (sent c.at_number-holders.result) = c.at_number-holders.ensures.holders c.args.prefix.now c.requires.number in
+    sym (due_unheld (held_by c.args.sources.now) c.args.sources.now.client c.args.speech c.args.prefix.now
+    (sym (ap sent (none_left c.at_number-holders.result (sym c.is_empty.ensures ∙ c.if-is_empty.true))) ∙ listed.all))
