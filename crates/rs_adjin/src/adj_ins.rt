@@ -132,8 +132,8 @@ impl AdjIns {
     ///
     /// # Errors
     ///
-    /// `AllocError` where memory was refused, or where no number of 32 bits is left: then the prefix
-    /// has none.
+    /// `AllocError` where the prefix has no number, and memory was refused, or no number of 32 bits is left: then it
+    /// has none still.
     pub fn add(&mut self, prefix: Prefix) -> Result<u32, AllocError>
         ensures number { IfOk result (λ n. number_of self.new prefix ≡ Some n) }
         ensures prefix { IfOk result (λ n. prefix_of self.new n ≡ Some prefix) }

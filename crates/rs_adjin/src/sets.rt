@@ -136,6 +136,18 @@ impl Sets {
         Ok(number)
     }
 
+    /// The set of these attributes, where they have a number.
+    fn known(&self, attrs: &Arc<Attrs>) -> Result<Shared, AllocError>
+        ensures set { IfOk result (λ shared. set_in self.now (arc_value attrs.now) ≡ Some shared.set) }
+        ensures attrs { IfOk result (λ shared. arc_value shared.attrs ≡ arc_value attrs.now) }
+    {
+        let Some(set) = self.number(attrs)? else {
+            return Err(AllocError);
+        };
+        let attrs = self.copy_of(set, attrs)?;
+        Ok(Shared { set, attrs })
+    }
+
     /// The set of these attributes, which gets a number if it has none: one search finds it, or the place where it belongs.
     pub(crate) fn share(&mut self, attrs: &Arc<Attrs>) -> Result<Shared, AllocError>
         ensures set { IfOk result (λ shared. set_in self.new (arc_value attrs.now) ≡ Some shared.set) }
@@ -148,7 +160,9 @@ impl Sets {
         let key = key_of(attrs)?;
         let kept = attrs.clone()?;
         let copy = attrs.clone()?;
-        let unused = self.unused()?;
+        let Ok(unused) = self.unused() else {
+            return self.known(attrs);
+        };
         match find_or_give(&mut self.numbers, key, unused) {
             Ok(None) => {
                 self.rows[unused as usize].attrs = Some(kept);

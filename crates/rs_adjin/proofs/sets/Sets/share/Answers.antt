@@ -8,22 +8,22 @@ use Rattle.rs_adjin.proofs.sets.Sets.share.Goals as goal
 
 -- ---- where they had no number
 
-new : (c : goal.After-self-1) → IsAdded (number_by c.unused.new.self.numbers) (number_by c.find_or_give.new.numbers) (slice_set c.unused.new.self.rows.items c.in_ok-unused.unused record { attrs = Some c.in_ok-kept.kept }) (arc_value c.args.attrs.now)
+new : (c : goal.After-self-1) → IsAdded (number_by c.unused.new.self.numbers) (number_by c.find_or_give.new.numbers) (slice_set c.unused.new.self.rows.items c.in-Ok.unused record { attrs = Some c.in_ok-kept.kept }) (arc_value c.args.attrs.now)
 new c =
-    added_by c.unused.new.self.numbers c.find_or_give.new.numbers c.unused.new.self.rows.items c.in_ok-unused.unused c.index_mut.result.now c.in_ok-key.key c.unused.new.self.inverse c.in_ok-unused.ensures.within c.index_mut.ensures.value
+    added_by c.unused.new.self.numbers c.find_or_give.new.numbers c.unused.new.self.rows.items c.in-Ok.unused c.index_mut.result.now c.in_ok-key.key c.unused.new.self.inverse c.in-Ok.ensures.within c.index_mut.ensures.value
     (arc_value c.args.attrs.now) c.in_ok-kept.kept
     (sym (found_by c.unused.new.self.numbers c.in_ok-key.key (arc_value c.args.attrs.now) c.in_ok-key.ensures.hash c.in_ok-key.ensures.attrs) ∙ sym c.in-Ok-None.ensures.found ∙ c.in-Ok-None.field-0-is)
-    c.in_ok-unused.ensures.unused (search rules) c.in_ok-key.ensures.hash c.in_ok-key.ensures.attrs (c.in-Ok-None.ensures.given c.in-Ok-None.field-0-is).0
+    c.in-Ok.ensures.unused (search rules) c.in_ok-key.ensures.hash c.in_ok-key.ensures.attrs (c.in-Ok-None.ensures.given c.in-Ok-None.field-0-is).0
 
 pub invariant_of-self : goal.invariant_of-self
 invariant_of-self c = record { inverse = (new c).inverse; counted = c.unused.new.self.counted }
 
-written : (c : goal.Joined-index_mut) → IsAdded (number_by c.unused.new.self.numbers) (number_by c.find_or_give.new.numbers) (slice_set c.unused.new.self.rows.items c.in_ok-unused.unused record { attrs = Some c.in_ok-kept.kept }) (arc_value c.args.attrs.now)
+written : (c : goal.Joined-index_mut) → IsAdded (number_by c.unused.new.self.numbers) (number_by c.find_or_give.new.numbers) (slice_set c.unused.new.self.rows.items c.in-Ok.unused record { attrs = Some c.in_ok-kept.kept }) (arc_value c.args.attrs.now)
 written c =
-    added_by c.unused.new.self.numbers c.find_or_give.new.numbers c.unused.new.self.rows.items c.in_ok-unused.unused c.index_mut.result.now c.in_ok-key.key c.unused.new.self.inverse c.in_ok-unused.ensures.within c.index_mut.ensures.value
+    added_by c.unused.new.self.numbers c.find_or_give.new.numbers c.unused.new.self.rows.items c.in-Ok.unused c.index_mut.result.now c.in_ok-key.key c.unused.new.self.inverse c.in-Ok.ensures.within c.index_mut.ensures.value
     (arc_value c.args.attrs.now) c.in_ok-kept.kept
     (sym (found_by c.unused.new.self.numbers c.in_ok-key.key (arc_value c.args.attrs.now) c.in_ok-key.ensures.hash c.in_ok-key.ensures.attrs) ∙ sym c.in-Ok-None.ensures.found ∙ c.in-Ok-None.field-0-is)
-    c.in_ok-unused.ensures.unused (search rules) c.in_ok-key.ensures.hash c.in_ok-key.ensures.attrs (c.in-Ok-None.ensures.given c.in-Ok-None.field-0-is).0
+    c.in-Ok.ensures.unused (search rules) c.in_ok-key.ensures.hash c.in_ok-key.ensures.attrs (c.in-Ok-None.ensures.given c.in-Ok-None.field-0-is).0
 
 pub returns-in-Ok-None-clause-kept : goal.returns-in-Ok-None-clause-kept
 returns-in-Ok-None-clause-kept c q m is = (written c).kept q m (c.unused.ensures.sets q ∙ is)
