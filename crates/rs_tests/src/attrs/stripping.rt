@@ -55,6 +55,18 @@ const C_ANY: CommunityPattern = CommunityPattern {
     low: None,
 };
 
+/// 64497:1
+const C_OTHER: CommunityPattern = CommunityPattern {
+    high: Some(64497),
+    low: Some(1),
+};
+
+/// *:3
+const C_3_OF_ANY: CommunityPattern = CommunityPattern {
+    high: None,
+    low: Some(3),
+};
+
 /// 64496:1:2
 const L_1_2: LargeCommunityPattern = LargeCommunityPattern {
     global: Some(64496),
@@ -74,6 +86,13 @@ const L_2_ANY: LargeCommunityPattern = LargeCommunityPattern {
     global: Some(64496),
     first: Some(2),
     second: None,
+};
+
+/// 64497:1:2
+const L_OTHER: LargeCommunityPattern = LargeCommunityPattern {
+    global: Some(64497),
+    first: Some(1),
+    second: Some(2),
 };
 
 /// What is stripped, and what is left of the communities sent.
@@ -237,6 +256,58 @@ fn has_communities_like_patterns(rt: HostRuntime) {
             &rt,
             route.tags().has_large_community_like(pattern),
             false,
+            pattern,
+        );
+    }
+}
+
+/// Patterns, and whether it is told of each by its first part alone that no community that was sent is like it.
+static LACKED: [(CommunityPattern, bool); 4] = [
+    (C_1, false),
+    (C_3, false),
+    (C_OTHER, true),
+    (C_3_OF_ANY, false),
+];
+
+/// The same of large communities.
+static LACKED_LARGE: [(LargeCommunityPattern, bool); 3] = [
+    (L_1_2, false),
+    (L_2_ANY, false),
+    (L_OTHER, true),
+];
+
+/// Of a route without any communities it is told wherever a pattern has a first part.
+#[test]
+fn lacks_communities_by_their_first_parts(rt: HostRuntime) {
+    let sent = route_with(&rt, rt.alloc(), SENT);
+    let route = attrs_of(&rt, rt.alloc(), &ROUTE);
+    for (pattern, want) in &LACKED {
+        is_of(
+            &rt,
+            sent.tags().lacks_community_like(pattern),
+            *want,
+            pattern,
+        );
+        let has_first = pattern.high.is_some();
+        is_of(
+            &rt,
+            route.tags().lacks_community_like(pattern),
+            has_first,
+            pattern,
+        );
+    }
+    for (pattern, want) in &LACKED_LARGE {
+        is_of(
+            &rt,
+            sent.tags().lacks_large_community_like(pattern),
+            *want,
+            pattern,
+        );
+        let has_first = pattern.global.is_some();
+        is_of(
+            &rt,
+            route.tags().lacks_large_community_like(pattern),
+            has_first,
             pattern,
         );
     }
