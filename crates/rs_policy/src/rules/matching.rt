@@ -211,7 +211,9 @@ pub(super) fn matches(lists: &[NamedList], rule: &Rule, offer: &Offer<'_, '_>) -
     all_hold(lists, rule, offer)
 }
 
-/// Whether all tests of a rule hold, those that walk the attributes last.
+/// Whether all tests of a rule hold, those that walk the attributes last. It stays a call of its own, so that for a rule that is passed
+/// over its caller's loop makes none.
+#[inline(never)]
 #[tactic(auto, unfolding(crate::specs::Verdicts::matches))]
 fn all_hold(lists: &[NamedList], rule: &Rule, offer: &Offer<'_, '_>) -> bool
     ensures { result ≡ matches lists.now rule.now (offered offer.now) }
