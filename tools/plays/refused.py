@@ -4,8 +4,8 @@ play.py refused PROGRAM FOLDER
 
 Of the requests for memory of a session, by 1 and by 2 workers, each is refused in a run of its own. It must show as a
 line `memory NAME`, with `close NAME` where octets came and without at a turn; as `rules refused: out of memory`; or as status 3
-with the words `out of memory`, and then what was written is a front of what is written else. Four kinds show as nothing: the
-one request of READING, those by which a thread is started for a turn by 2 workers, which is then done on one, those of a turn
+with the words `out of memory`, and then what was written is a front of what is written else. Five kinds show as nothing: the
+one request of READING, those for a number that octets need not, since their prefix or their attributes have one, those by which a thread is started for a turn by 2 workers, which is then done on one, those of a turn
 for what serves other clients too, choices and what rules left of routes, which is then made anew for these, and those
 behind a turn by which other clients can have the same rows, which are then the client's own still. Behind the
 session the clients that were lost come again and say again what they said, a turn and room for all follow, and each
@@ -111,11 +111,15 @@ class Refusals:
         if number <= self.counts[0]:
             return "nowhere, by the words"
         is_turn = self.workers > 1 and self.line_of(number) == "turn"
-        return "nowhere, by a thread" if is_turn else f"nowhere, at {self.line_of(number)}"
+        is_heard = self.line_of(number).startswith("octets ")
+        where = "octets" if is_heard else self.line_of(number)
+        return "nowhere, by a thread" if is_turn else f"nowhere, at {where}"
 
 
 # Each turn by two workers starts a thread, for which this many requests are made.
 OF_A_THREAD = 1
+# A number is made ready before it is known whether a prefix or attributes have one, by this many where none was left.
+OF_NUMBERS = 1
 # For what serves other clients too a worker makes this many at a turn.
 OF_CHOICES = 1
 # That others can have its rows, which lie in one block in these sessions, a client makes this many behind a turn.
@@ -136,6 +140,7 @@ def sweep(program, library, folder, name, workers):
         "in a line": number,
         "by status 3": number,
         "nowhere, by the words": READING,
+        "nowhere, at octets": OF_NUMBERS * sum(line.startswith("octets ") for line in refusals.lines),
         "nowhere, at turn": (OF_CHOICES + OF_ROWS * clients) * turns,
         "nowhere, by a thread": (OF_A_THREAD + OF_CHOICES * workers + OF_ROWS * clients) * turns,
     }
