@@ -5,8 +5,8 @@ play.py refused PROGRAM FOLDER
 Of the requests for memory of a session, by 1 and by 2 workers, each is refused in a run of its own. It must show as a
 line `memory NAME`, with `close NAME` where octets came and without at a turn; as `rules refused: out of memory`; or as status 3
 with the words `out of memory`, and then what was written is a front of what is written else. Five kinds show as nothing: the
-one request of READING, those for a number that octets need not, since their prefix or their attributes have one, those by which a thread is started for a turn by 2 workers, which is then done on one, those of a turn
-for what serves other clients too, choices and what rules left of routes, which is then made anew for these, and those
+one request of READING, those for a number that octets turn out not to need, since their prefix or their attributes have one,
+those by which a thread is started for a turn by 2 workers, which is then done on one, those of a turn for what serves other clients too, choices and what rules left of routes, which is then made anew for these, and those
 behind a turn by which other clients can have the same rows, which are then the client's own still. Behind the
 session the clients that were lost come again and say again what they said, a turn and room for all follow, and each
 Established client must hold what the plain function says (`holding.py`).
