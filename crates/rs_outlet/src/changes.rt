@@ -11,6 +11,7 @@ ghost use Rattle.rs_attrs.specs.Comparing.{attributes_hash};
 ghost use Rattle.rs_adjin.specs.declared.adj_ins.AdjIns.{AdjIns};
 ghost use Rattle.rs_adjin.specs.AdjIns.{number_of};
 ghost use Rattle.rs_outlet.specs.Views.{HaveNumbers};
+ghost use Rattle.rs_rows.specs.Cells.{taken_of};
 ghost use Rattle.rs_rows.specs.Rows.{IsPrepared};
 ghost use Rattle.std.specs.Vec.{vec_capacity};
 ghost use Rattle.rs_outlet.specs.Pending.Slots.{open_at, open_count, withdrawn_count};
@@ -24,8 +25,12 @@ use crate::waiting::{Due, Told, Wait, Waits};
 use rs_adjin::AdjIns;
 use rs_attrs::Attrs;
 use rs_octets::Prefix;
+use rs_rows::{Taken, lie_together};
 use std::alloc::{AllocError, Global};
 use std::sync::Arc;
+
+/// So many rows of a block are most of its sixteen.
+const MOST: usize = 9;
 
 /// A prefix at which something else is due than before.
 #[derive(Drop)]
@@ -36,37 +41,34 @@ pub(crate) struct Change {
 }
 
 /// What waits at a prefix that is due no more, where this was told.
-fn withdrawn_wait(prefix: Prefix, told: Option<Arc<Attrs>>, marked: bool) -> Option<Wait>
-    ensures owed { IsOwed result None (option_map arc_value told) marked }
+fn withdrawn_wait(prefix: Prefix, told: Taken, marked: bool) -> Option<Wait>
+    ensures owed { IsOwed result None (taken_of told) marked }
     ensures due { IfSome result (λ w. w.due ≡ Due.Withdrawn) }
     ensures slot { IfSome result (IsOpenAt prefix) }
 {
-    let told = told?;
+    if told.attrs().is_none() {
+        return None;
+    }
     Some(Wait {
         prefix,
         due: Due::Withdrawn,
-        told: Told::Other(told),
+        told: Told::of(told),
         marked,
         open: true,
     })
 }
 
 /// What is known of what was told, beside what is due: none where nothing waits.
-fn told_beside(due: &Arc<Attrs>, told: Option<Arc<Attrs>>, marked: bool) -> Option<Told>
-    ensures { IsBeside result (arc_value due.now) (option_map arc_value told) marked }
+fn told_beside(due: &Arc<Attrs>, told: Taken, marked: bool) -> Option<Told>
+    ensures { IsBeside result (arc_value due.now) (taken_of told) marked }
 {
-    match told {
-        None => Some(Told::Nothing),
-        Some(told) => {
-            if told != *due {
-                Some(Told::Other(told))
-            } else if marked {
-                Some(Told::Same)
-            } else {
-                None
-            }
-        }
+    let Some(attrs) = told.attrs() else {
+        return Some(Told::Nothing);
+    };
+    if *attrs != **due {
+        return Some(Told::of(told));
     }
+    if marked { Some(Told::Same) } else { None }
 }
 
 /// What waits at a prefix where this is due and this was told.
@@ -74,10 +76,10 @@ fn announced_wait(
     number: u32,
     prefix: Prefix,
     due: &Arc<Attrs>,
-    told: Option<Arc<Attrs>>,
+    told: Taken,
     marked: bool,
 ) -> Option<Wait>
-    ensures owed { IsOwed result (Some (arc_value due.now)) (option_map arc_value told) marked }
+    ensures owed { IsOwed result (Some (arc_value due.now)) (taken_of told) marked }
     ensures due { IfSome result (λ w. w.due ≡ Due.Announced number (attributes_hash (arc_value due.now))) }
     ensures slot { IfSome result (IsOpenAt prefix) }
 {
@@ -138,6 +140,17 @@ fn carry_out(rows: &mut Rows, waits: &mut Waits, fresh: &mut Vec<Wait>, change: 
     }
 }
 
+/// Whether the changes from an index on, which go by number, are of most rows of a block.
+fn are_most_of_block(changes: &[Change], index: usize) -> bool {
+    match (
+        changes.get(index),
+        changes.get(index.saturating_add(MOST - 1)),
+    ) {
+        (Some(first), Some(last)) => lie_together(first.number, last.number),
+        _ => false,
+    }
+}
+
 /// Prepares the rows of changes.
 fn prepare(rows: &mut Rows, changes: &[Change]) -> Result<(), AllocError>
     requires { AreBelow changes.now (length rows.old.rows.items) }
@@ -145,8 +158,8 @@ fn prepare(rows: &mut Rows, changes: &[Change]) -> Result<(), AllocError>
     ensures used { rows.new.used ≡ rows.old.used }
     ensures prepared { OnOk result (HaveRows changes.now rows.new.rows) }
 {
-    for change in changes {
-        rows.prepare(change.number)?;
+    for (index, change) in changes.iter().enumerate() {
+        rows.prepare(change.number, are_most_of_block(changes, index))?;
     }
     Ok(())
 }

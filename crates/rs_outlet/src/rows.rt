@@ -2,6 +2,7 @@
 
 ghost use Rattle.std.specs.Prelude.{◌≡◌, ◌≤◌, ◌<◌, ◌+◌, ℕ, [], Some, None, IfOk, IsTrue, OnOk, length, slice_set, option_map};
 ghost use Rattle.std.specs.Arc.{arc_value};
+ghost use Rattle.rs_rows.specs.Cells.{taken_of};
 ghost use Rattle.rs_rows.specs.Places.{lent_row};
 ghost use Rattle.rs_rows.specs.Rows.{IsPrepared, row_at, shown};
 ghost use Rattle.rs_outlet.specs.Inside.{IsOwn, attributes_at, loc_of, numbers_from};
@@ -9,7 +10,7 @@ ghost use Rattle.rs_outlet.specs.Inside.{IsOwn, attributes_at, loc_of, numbers_f
 use crate::table::Rows;
 use rs_attrs::Attrs;
 use rs_octets::Prefix;
-use rs_rows::{Blocks, Lent};
+use rs_rows::{Blocks, Lent, Taken};
 use std::alloc::{AllocError, Global};
 use std::sync::Arc;
 
@@ -93,34 +94,32 @@ impl Rows {
         self.rows.grow(count)
     }
 
-    /// The row of a number can be written.
-    pub(crate) fn prepare(&mut self, number: u32) -> Result<(), AllocError>
+    /// The row of a number can be written. `most` says whether most rows of its block are to be.
+    pub(crate) fn prepare(&mut self, number: u32, most: bool) -> Result<(), AllocError>
         requires { number < length self.old.rows.items }
         ensures rows { self.new.rows.items ≡ self.old.rows.items }
         ensures used { self.new.used ≡ self.old.used }
         ensures prepared { OnOk result (IsPrepared self.new.rows.prepared number) }
         ensures kept { (n : ℕ) → IsPrepared self.old.rows.prepared n → IsPrepared self.new.rows.prepared n }
     {
-        self.rows.prepare(number)
+        self.rows.prepare(number, most)
     }
 
     /// Takes the route out of the row of a number.
-    pub(crate) fn take(&mut self, number: u32) -> Option<Arc<Attrs>>
+    pub(crate) fn take(&mut self, number: u32) -> Taken
         requires number { number < length self.old.rows.items }
         requires prepared { IsPrepared self.old.rows.prepared number }
         ensures rows { self.new.rows.items ≡ slice_set self.old.rows.items number None }
         ensures room { length self.new.rows.items ≡ length self.old.rows.items }
         ensures prepared { self.new.rows.prepared ≡ self.old.rows.prepared }
-        ensures was { option_map arc_value result ≡ shown (row_at self.old.rows.items number) }
+        ensures was { taken_of result ≡ shown (row_at self.old.rows.items number) }
         ensures used { self.new.used ≤ self.old.used }
     {
-        match self.rows.take(number) {
-            None => None,
-            Some(attrs) => {
-                self.used -= 1;
-                Some(attrs)
-            }
+        let taken = self.rows.take(number);
+        if taken.attrs().is_some() {
+            self.used -= 1;
         }
+        taken
     }
 
     /// Puts a route into the free row of a number.

@@ -15,6 +15,8 @@ ghost use Rattle.std.specs.List.Sorted.{IsStrictlySortedBy};
 ghost use Rattle.std.proofs.Props.{props};
 ghost use Rattle.std.specs.Vec.{vec_capacity};
 ghost use Rattle.rs_octets.specs.Prefixes.{Prefix, prefix_order};
+ghost use Rattle.rs_attrs.specs.Meaning.{Attribute};
+ghost use Rattle.rs_rows.specs.Cells.{taken_of};
 ghost use Rattle.rs_outlet.specs.declared.waiting.Wait.{Wait};
 ghost use Rattle.rs_outlet.specs.Pending.Slots.{AreApart, AreByHash, AreFresh, IsOpenSlot, IsShut, hash_of, prefixes_at, open_count, withdrawn_count, is_withdrawn, is_announced, open_at, told_of, told_by, marked_by};
 
@@ -28,16 +30,20 @@ use crate::waiting::chains::Keyed;
 use crate::waiting::parts::{open_in, sort_from};
 use rs_attrs::Attrs;
 use rs_octets::Prefix;
+use rs_rows::{Block, Taken};
 use std::alloc::{AllocError, Global};
 use std::sync::Arc;
 
-/// What the client was told of a prefix that waits.
+/// What the client was told of a prefix that waits. Beside the tag an index takes no octets, where a `Taken` in a variant
+/// would take eight more.
 #[derive(Drop)]
 pub(crate) enum Told {
     Nothing,
     /// Just what is due: it asked for that again.
     Same,
     Other(Arc<Attrs>),
+    /// What the row at an index of a block has.
+    Within { index: u8, block: Arc<Block> },
 }
 
 /// What is due at a prefix that waits: the number of its row and the hash of its attributes. Or it is
@@ -188,12 +194,8 @@ impl Waits {
 
     /// Takes a prefix out, where it waits: what was told there, and whether it is to be told again.
     /// Where it doesn't wait, what was due was told.
-    pub(crate) fn take_told(
-        &mut self,
-        prefix: &Prefix,
-        was_due: Option<Arc<Attrs>>,
-    ) -> (Option<Arc<Attrs>>, bool)
-        ensures told { option_map arc_value result.0 ≡ told_by (open_at prefix.now self.old.slots.items) (option_map arc_value was_due) }
+    pub(crate) fn take_told(&mut self, prefix: &Prefix, was_due: Taken) -> (Taken, bool)
+        ensures told { taken_of result.0 ≡ told_by (open_at prefix.now self.old.slots.items) (taken_of was_due) }
         ensures marked { result.1 ≡ marked_by (open_at prefix.now self.old.slots.items) }
         ensures slots { (q : Prefix) → open_at q self.new.slots.items ≡ (if eq_by_cmp prefix_order q prefix.now then None else open_at q self.old.slots.items) }
         ensures chained { (rows : List (Option Row)) → AreChained rows (take self.old.sorted self.old.slots.items) self.old.chains.items → AreChained rows (take self.new.sorted self.new.slots.items) self.new.chains.items }
@@ -239,14 +241,26 @@ impl Wait {
 }
 
 impl Told {
+    /// What was told, as it was taken out of a row.
+    pub(crate) fn of(taken: Taken) -> Told
+        ensures { (due : Option (List Attribute)) → told_of result due ≡ taken_of taken }
+    {
+        match taken {
+            Taken::Nothing => Told::Nothing,
+            Taken::One(attrs) => Told::Other(attrs),
+            Taken::Within { index, block } => Told::Within { index, block },
+        }
+    }
+
     /// What was told at a slot, where this is due.
-    fn or_due(self, due: Option<Arc<Attrs>>) -> Option<Arc<Attrs>>
-        ensures { option_map arc_value result ≡ told_of self (option_map arc_value due) }
+    fn or_due(self, due: Taken) -> Taken
+        ensures { taken_of result ≡ told_of self (taken_of due) }
     {
         match self {
-            Told::Nothing => None,
+            Told::Nothing => Taken::Nothing,
             Told::Same => due,
-            Told::Other(told) => Some(told),
+            Told::Other(told) => Taken::One(told),
+            Told::Within { index, block } => Taken::Within { index, block },
         }
     }
 }

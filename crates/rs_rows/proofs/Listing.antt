@@ -1,5 +1,5 @@
 -- The rows of blocks, one after the other, as they are read and written.
-use Rattle.std.proofs.Common.{◌≡◌, ◌<◌, ◌≤◌, ◌+◌, ◌-◌, ◌*◌, ◌/◌, ◌%◌, ℕ, zero, suc, Bool, true, Option, None, Some, List, [], ◌∷◌, ◌++◌, get_or, length, map, replicate, set, refl, sym, ap, subst, ◌∙◌, arith}
+use Rattle.std.proofs.Common.{◌≡◌, ◌<◌, ◌≤◌, ◌+◌, ◌-◌, ◌*◌, ◌/◌, ◌%◌, ℕ, zero, suc, Bool, true, Option, None, Some, List, [], ◌∷◌, ◌++◌, get_or, length, take, map, replicate, set, refl, sym, ap, subst, ◌∙◌, arith}
 use Rattle.std.specs.Prelude.{slice_get}
 use Rattle.std.specs.Arc.{arc_value}
 use Rattle.std.specs.List.{flat_map}
@@ -17,7 +17,7 @@ rows_of ps = flat_map rows_in ps
 
 pub sixteen : (p : Part) → length (rows_in p) ≡ 16
 sixteen part.Free = let none : Option Row = None in length-replicate 16 none
-sixteen (part.Own block) = let n = block.full in omega (arith, n, block.rows.ok)
+sixteen (part.Own draft) = let n = draft.full in omega (arith, n, draft.cells.ok)
 sixteen (part.Shared block) = let b = arc_value block in let n = b.full in omega (arith, n, b.rows.ok)
 
 pub rows_length : (ps : List Part) → length (rows_of ps) ≡ length ps * 16
@@ -79,6 +79,15 @@ no_part [] zero past = refl
 no_part [] (suc k) past = refl
 no_part (o ∷ ps) zero past = absurd (omega (arith, past))
 no_part (o ∷ ps) (suc k) past = no_part ps k (omega (arith, past))
+
+-- one row more
+taken_next : (xs : List (Option Row)) (n : ℕ) → n < length xs → take n xs ++ row_at xs n ∷ [] ≡ take (suc n) xs
+taken_next [] n below = absurd (omega (arith, below))
+taken_next (x ∷ xs) zero below = refl
+taken_next (x ∷ xs) (suc n) below = ap (λ ys. x ∷ ys) (taken_next xs n (omega (arith, below)))
+
+pub taken_more : (xs : List (Option Row)) (n : ℕ) → n < length xs → take n xs ++ row_at xs n ∷ [] ≡ take (n + 1) xs
+taken_more xs n below = taken_next xs n below ∙ ap (λ m. take m xs) (let e : suc n ≡ n + 1 = omega arith in e)
 
 -- ---- a row written
 

@@ -1,3 +1,4 @@
 pub mod Rows
 pub mod Places
+pub mod Cells
 pub mod Blocks

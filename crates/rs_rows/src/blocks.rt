@@ -1,13 +1,15 @@
 //! Rows by number, in blocks.
 
-ghost use Rattle.std.specs.Prelude.{◌≡◌, ◌<◌, ◌≤◌, ℕ, [], None, Some, length, option_map, slice_set, OnOk};
+ghost use Rattle.std.specs.Prelude.{◌≡◌, ◌<◌, ◌≤◌, ◌/◌, ℕ, [], None, Some, length, nat_eq, option_map, slice_set, OnOk};
 ghost use Rattle.std.specs.Arc.{arc_value};
+ghost use Rattle.rs_rows.specs.Cells.{taken_of};
 ghost use Rattle.rs_rows.specs.Rows.{IsPrepared, row_at, shown};
 ghost use Rattle.rs_rows.specs.Places.{lent_row};
 
 use crate::block::ROWS;
 use crate::part::Part;
 use crate::place::Lent;
+use crate::taken::Taken;
 use rs_attrs::Attrs;
 use rs_octets::Prefix;
 use std::alloc::{AllocError, Global};
@@ -16,6 +18,13 @@ use std::sync::Arc;
 
 /// How many blocks there are at most: as many as numbers of 32 bits have.
 const MOST: usize = 268_435_456;
+
+/// Whether the rows of two numbers lie in one block.
+pub fn lie_together(number: u32, other: u32) -> bool
+    ensures { result ≡ nat_eq (number / 16) (other / 16) }
+{
+    number as usize / ROWS == other as usize / ROWS
+}
 
 /// The rows of a Loc-RIB by number, in blocks of 16 that clients share where they have the same rows.
 #[derive(Drop)]
@@ -94,28 +103,29 @@ impl Blocks {
         Ok(())
     }
 
-    /// The row of a number can be written: its block is this client's own.
-    pub fn prepare(&mut self, number: u32) -> Result<(), AllocError>
+    /// The row of a number can be written: its block is this client's own. Where `most` rows of the block are to be
+    /// written, what is taken out of them is taken as shares of the block that was.
+    pub fn prepare(&mut self, number: u32, most: bool) -> Result<(), AllocError>
         requires { number < length self.old.items }
         ensures rows { self.new.items ≡ self.old.items }
         ensures prepared { OnOk result (IsPrepared self.new.prepared number) }
         ensures kept { (n : ℕ) → IsPrepared self.old.prepared n → IsPrepared self.new.prepared n }
     {
         let place = number as usize / ROWS;
-        let Some(block) = self.parts[place].copy(self.alloc)? else {
+        let Some(draft) = self.parts[place].copy(self.alloc, most)? else {
             return Ok(());
         };
         self.prepared.push(place as u32)?;
-        self.parts[place] = Part::Own(block);
+        self.parts[place] = Part::Own(draft);
         Ok(())
     }
 
     /// Takes the route out of the row of a number.
-    pub fn take(&mut self, number: u32) -> Option<Arc<Attrs>>
+    pub fn take(&mut self, number: u32) -> Taken
         requires { IsPrepared self.old.prepared number }
         ensures rows { self.new.items ≡ slice_set self.old.items number None }
         ensures prepared { self.new.prepared ≡ self.old.prepared }
-        ensures was { option_map arc_value result ≡ shown (row_at self.old.items number) }
+        ensures was { taken_of result ≡ shown (row_at self.old.items number) }
     {
         self.parts[number as usize / ROWS].take(number as usize % ROWS)
     }

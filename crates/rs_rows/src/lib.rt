@@ -4,15 +4,22 @@
 //! blocks. Where two clients have a block of the same rows, one copy serves both: most clients of a route server are due
 //! the same.
 //!
-//! - `place` is a row as it lies in memory, `block` so many of them, `part` a block of one client or of several.
+//! - `place` is a row as it lies in memory, `block` so many of them, which clients share. `draft` is a block that is
+//!   written, of `cell`s: rows of its own, or as they lie in the block that was. `part` is a block of one client or of several.
+//! - `taken` is what was taken out of a row.
 //! - `blocks` has the calls: rows are read by number; before one is written its block is prepared, which takes memory;
 //!   and blocks that were prepared are shared with others, where those have the same rows.
 #![tactic(auto)]
 
 mod block;
 mod blocks;
+mod cell;
+mod draft;
 mod part;
 mod place;
+mod taken;
 
-pub use blocks::Blocks;
+pub use block::Block;
+pub use blocks::{Blocks, lie_together};
 pub use place::Lent;
+pub use taken::Taken;

@@ -4,9 +4,12 @@ ghost use Rattle.std.specs.Prelude.{◌≡◌, ◌<◌, None, Some, true, option
 ghost use Rattle.std.specs.Arc.{arc_value};
 ghost use Rattle.rs_rows.specs.Rows.{row_at, shown};
 ghost use Rattle.rs_rows.specs.Places.{lent_row};
+ghost use Rattle.rs_rows.specs.Cells.{taken_of};
 
 use crate::block::Block;
+use crate::draft::Draft;
 use crate::place::Lent;
+use crate::taken::Taken;
 use rs_attrs::Attrs;
 use rs_octets::Prefix;
 use std::alloc::{AllocError, Global};
@@ -19,7 +22,7 @@ pub(crate) enum Part {
     /// All are free.
     Free,
     /// They can be written.
-    Own(Block),
+    Own(Draft),
     /// Other clients may have them too.
     Shared(Arc<Block>),
 }
@@ -27,16 +30,19 @@ pub(crate) enum Part {
 impl Part {
     ghost use Rattle.rs_rows.specs.Blocks.{is_own, rows_in};
 
-    /// A block that can be shared. Where memory for that is refused, it is one client's still.
-    fn of(alloc: Global, block: Block) -> Part
-        ensures { rows_in result ≡ block.rows.items }
+    /// What was written, as it can be shared. Where memory for that is refused, it is one client's still.
+    fn of(alloc: Global, draft: Draft) -> Part
+        ensures { rows_in result ≡ draft.cells.items }
     {
-        if block.is_free() {
+        if draft.is_free() {
             return Part::Free;
         }
-        match Arc::new(alloc, block) {
-            Ok(shared) => Part::Shared(shared),
-            Err(refused) => Part::Own(refused.value),
+        match draft.close(alloc) {
+            Ok(block) => match Arc::new(alloc, block) {
+                Ok(shared) => Part::Shared(shared),
+                Err(_) => Part::Own(draft),
+            },
+            Err(_) => Part::Own(draft),
         }
     }
 
@@ -46,33 +52,35 @@ impl Part {
     {
         match self {
             Part::Free => None,
-            Part::Own(block) => block.at(index),
+            Part::Own(draft) => draft.at(index),
             Part::Shared(block) => block.at(index),
         }
     }
 
-    /// A block of the same rows that can be written; none where they can be written here.
-    pub(crate) fn copy(&self, alloc: Global) -> Result<Option<Block>, AllocError>
+    /// A block of the same rows that can be written; none where they can be written here. Where `most` rows of it are to be
+    /// written, what is taken out of them is taken as shares of the block that was.
+    pub(crate) fn copy(&self, alloc: Global, most: bool) -> Result<Option<Draft>, AllocError>
         ensures own { IfOk result (λ made. made ≡ None → is_own self.now ≡ true) }
-        ensures rows { IfOk result (λ made. IfSome made (λ block. block.rows.items ≡ rows_in self.now)) }
+        ensures rows { IfOk result (λ made. IfSome made (λ draft. draft.cells.items ≡ rows_in self.now)) }
     {
         match self {
-            Part::Free => Ok(Some(Block::free(alloc)?)),
+            Part::Free => Ok(Some(Draft::free(alloc)?)),
             Part::Own(_) => Ok(None),
-            Part::Shared(block) => Ok(Some(block.copy(alloc)?)),
+            Part::Shared(block) if most => Ok(Some(Draft::over(alloc, block)?)),
+            Part::Shared(block) => Ok(Some(Draft::copy(alloc, block)?)),
         }
     }
 
     /// Takes the route out of the row at an index.
-    pub(crate) fn take(&mut self, index: usize) -> Option<Arc<Attrs>>
+    pub(crate) fn take(&mut self, index: usize) -> Taken
         requires own { is_own self.old ≡ true }
         requires index { index < 16 }
         ensures rows { rows_in self.new ≡ slice_set (rows_in self.old) index None }
         ensures own { is_own self.new ≡ true }
-        ensures was { option_map arc_value result ≡ shown (row_at (rows_in self.old) index) }
+        ensures was { taken_of result ≡ shown (row_at (rows_in self.old) index) }
     {
         match self {
-            Part::Own(block) => block.take(index),
+            Part::Own(draft) => draft.take(index),
             Part::Free | Part::Shared(_) => unreachable!(),
         }
     }
@@ -85,7 +93,7 @@ impl Part {
         ensures own { is_own self.new ≡ true }
     {
         match self {
-            Part::Own(block) => block.put(index, prefix, attrs),
+            Part::Own(draft) => draft.put(index, prefix, attrs),
             Part::Free | Part::Shared(_) => unreachable!(),
         }
     }
@@ -114,7 +122,7 @@ impl Part {
         ensures { rows_in self.new ≡ rows_in self.old }
     {
         match mem::replace(self, Part::Free) {
-            Part::Own(block) => *self = Part::of(alloc, block),
+            Part::Own(draft) => *self = Part::of(alloc, draft),
             part => *self = part,
         }
     }

@@ -2,12 +2,14 @@
 use Rattle.std.proofs.Common.{◌≡◌, Bool, true, false, cond, ◌&&◌, not, Option, None, Some, IsSome, is_some, List, refl, sym, ap, ◌∙◌, subst}
 use Rattle.std.specs.Prelude.{option_map}
 use mathlib.Core.Bool.{true≢false}
+use Rattle.std.specs.Arc.{arc_value}
 use Rattle.std.specs.FinMap as fin
 use Rattle.std.specs.FinSet as set
 use Rattle.std.proofs.Math.Bool.{and-false}
 use Rattle.rs_octets.specs.Prefixes.{Prefix}
 use Rattle.rs_attrs.specs.Meaning.{Attribute}
 use Rattle.rs_attrs.specs.Comparing.{same_attributes}
+use Rattle.rs_rows.specs.Cells.{within}
 use Rattle.rs_outlet.specs.declared.waiting.Told.{Told}
 use Rattle.rs_outlet.specs.declared.waiting.Told.TheVariants as told
 use Rattle.rs_outlet.specs.declared.waiting.Wait.{Wait}
@@ -28,6 +30,7 @@ told_some : (t : Told) (due : Option (List Attribute)) → IsSome (told_of t due
 told_some told.Nothing due h = absurd (cc)
 told_some told.Same due h = h
 told_some (told.Other m) due h = refl
+told_some (told.Within index block) due h = (λ i. h i && h i)
 
 first_of : (a b : Bool) → Some b ≡ cond a None (Some false) → b ≡ false
 first_of true b h = absurd (cc)
@@ -69,6 +72,11 @@ told_part : (t : Told) (due : Option (List Attribute)) → (is_told t && is_some
 told_part told.Nothing due = refl
 told_part told.Same due = refl
 told_part (told.Other m) due = refl
+told_part (told.Within index block) due = twice (is_some (within index (arc_value block)))
+  where
+    twice : (b : Bool) → (b && b) ≡ b
+    twice true = refl
+    twice false = refl
 
 marks : (due : Option (List Attribute)) (was now : Option Wait) → MayWaitAgain due was now → (IsSome due → IsSome now) → marked_told now due ≡ is_some (told_by was due)
 marks due was None h all = none_due due all ∙ sym (ap (λ o. is_some (told_by o due)) h)

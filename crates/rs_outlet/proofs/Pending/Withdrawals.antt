@@ -1,6 +1,6 @@
 -- How many slots are to be withdrawn, and how many rows have a route, as they are written.
 use Rattle.std.proofs.Common.{◌≡◌, ◌≤◌, ◌<◌, ◌+◌, ℕ, zero, suc, Bool, true, false, cond, ◌&&◌, Option, None, Some, List, [], ◌∷◌, ◌++◌, length, get_or, slice_set, refl, sym, ap, ◌∙◌, arith}
-use Rattle.std.specs.Prelude.{IfSome, is_some, count_by}
+use Rattle.std.specs.Prelude.{IfSome, is_some, count_by, option_map}
 use Rattle.std.specs.List.{dedup, dedup_from, sum_by}
 use Rattle.std.specs.List.Sorted.{IsPermutation}
 use Rattle.std.proofs.lemmas.List.Sorted.{sum_by-IsPermutation}
@@ -50,6 +50,11 @@ row_taken rows n was below is =
     let there : is_some (get_or rows n none) ≡ is_some was = ap is_some (row_get rows n below) ∙ sym (shown_some (row_at rows n)) ∙ sym (ap is_some is) in
     let taken : ◌≡◌ {A = ℕ} (one_if (is_some (get_or rows n none))) (one_if (is_some was)) = ap one_if there in
     omega (arith, taken, sum_by-set (λ (r : Option Row). one_if (is_some r)) rows n none none below)
+
+-- what was taken is there just where it can be looked at
+pub taken_seen : {A : Type 0} (o : Option A) (f : A → List Attribute) (was : Option (List Attribute)) (b : Bool) → option_map f o ≡ was → b ≡ is_some o → is_some was ≡ b
+taken_seen None f was b is e = sym (ap is_some is) ∙ sym e
+taken_seen (Some a) f was b is e = sym (ap is_some is) ∙ sym e
 
 row_erased : (rows : List (Option Row)) (n : ℕ) → row_at (slice_set rows n None) n ≡ None
 row_erased [] zero = refl

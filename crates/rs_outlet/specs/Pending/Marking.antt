@@ -1,8 +1,10 @@
 -- What waits once a client asked for everything again.
-use Rattle.std.specs.Prelude.{◌≡◌, ◌⊎◌, ℕ, Bool, true, false, Option, None, Some, IsSome, List, [], ◌∷◌, ◌++◌, ◌≤◌, slice_get, slice_set}
+use Rattle.std.specs.Prelude.{◌≡◌, ◌⊎◌, ℕ, Bool, true, false, Option, None, Some, IsSome, is_some, List, [], ◌∷◌, ◌++◌, ◌≤◌, slice_get, slice_set}
 use Rattle.std.specs.FinMap as fin
+use Rattle.std.specs.Arc.{arc_value}
 use Rattle.rs_attrs.specs.Meaning.{Attribute}
 use Rattle.rs_attrs.specs.Comparing.{attributes_hash}
+use Rattle.rs_rows.specs.Cells.{within}
 use Rattle.rs_rows.specs.Rows.{Row}
 use Rattle.rs_outlet.specs.declared.waiting.Due.TheVariants as due
 use Rattle.rs_outlet.specs.declared.waiting.Told.{Told}
@@ -18,6 +20,7 @@ abbrev pub is_told : Told → Bool
 is_told told.Nothing = false
 is_told told.Same = true
 is_told (told.Other attrs) = true
+is_told (told.Within index block) = is_some (within index (arc_value block))
 
 abbrev pub remarked : Wait → Wait
 remarked w = record w { marked = is_told w.told }

@@ -7,6 +7,7 @@ use Rattle.std.specs.declared.cmp.Ordering.{Ordering}
 use Rattle.std.specs.declared.cmp.Ordering.TheVariants.{Less, Equal, Greater}
 use Rattle.rs_octets.specs.Prefixes.{Prefix, prefix_order}
 use Rattle.rs_attrs.specs.Meaning.{Attribute}
+use Rattle.rs_rows.specs.Cells.{within}
 use Rattle.rs_outlet.specs.declared.waiting.Told.{Told}
 use Rattle.rs_outlet.specs.declared.waiting.Told.TheVariants as told
 use Rattle.rs_outlet.specs.declared.waiting.Due.{Due}
@@ -90,6 +91,7 @@ abbrev pub told_of : Told → Option (List Attribute) → Option (List Attribute
 told_of told.Nothing due = None
 told_of told.Same due = due
 told_of (told.Other attrs) due = Some (arc_value attrs)
+told_of (told.Within index block) due = within index (arc_value block)
 
 -- what was told of a prefix that waits so, or doesn't wait, where this is due
 abbrev pub told_by : Option Wait → Option (List Attribute) → Option (List Attribute)

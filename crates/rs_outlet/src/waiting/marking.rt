@@ -122,7 +122,11 @@ impl Told {
     fn is_told(&self) -> bool
         ensures { result ≡ is_told self.now }
     {
-        !matches!(self, Told::Nothing)
+        match self {
+            Told::Nothing => false,
+            Told::Same | Told::Other(_) => true,
+            Told::Within { index, block } => block.has_route(*index),
+        }
     }
 }
 

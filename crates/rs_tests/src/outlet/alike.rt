@@ -3,7 +3,7 @@
 ghost use Rattle.rs_outlet.specs.Decided.Choices.{AreChoices};
 ghost use Rattle.rs_outlet.specs.Decided.HeldBy.{tables_of};
 
-use super::{CLIENT, Exchange, let_go, prefix, some};
+use super::{CLIENT, Exchange, SENDER, drain, let_go, prefix, some};
 use crate::common::{equals, shared};
 use rs_attrs::{Attrs, Mode};
 use rs_open::Limit;
@@ -135,9 +135,7 @@ fn outlets_share_the_same_rows_alone(rt: HostRuntime) {
     let mut alike = turned(&rt, &exchange, CLIENT + 1, &mut choices);
     let mut other = turned(&rt, &exchange, CLIENT + 2, &mut choices);
     drop(choices);
-    first.settle();
-    alike.adopt(&first);
-    alike.settle();
+    share_rows(&mut first, &mut alike);
     other.adopt(&first);
     other.settle();
     have_owners(&rt, &exchange, &first, SETS, 2);
@@ -155,15 +153,64 @@ fn shared_rows_are_written_apart(rt: HostRuntime) {
     let mut first = turned(&rt, &exchange, CLIENT, &mut choices);
     let mut alike = turned(&rt, &exchange, CLIENT + 1, &mut choices);
     drop(choices);
-    first.settle();
-    alike.adopt(&first);
-    alike.settle();
+    share_rows(&mut first, &mut alike);
     let changed = attrs(&rt, exchange.alloc, SETS, 3);
     exchange.announce(&rt, 0, &changed);
     exchange.touch(&rt, &mut first, 0..1, 1);
     exchange.decides(&rt, &mut first, some(1));
     equals(&rt, host_of(&rt, &exchange, &first), u32::from(SETS));
     equals(&rt, host_of(&rt, &exchange, &alike), 0);
+    let_go(exchange, first);
+}
+
+/// Both outlets have one copy of the rows that are the same.
+fn share_rows(first: &mut Outlet, alike: &mut Outlet) {
+    first.settle();
+    alike.adopt(first);
+    alike.settle();
+}
+
+/// The sender takes back all prefixes of so many sets, and the outlet decides that.
+fn take_back(rt: &impl Abort, exchange: &mut Exchange, outlets: &mut [Outlet], sets: u8) {
+    let count = u32::from(sets) * 2;
+    for outlet in outlets.iter_mut() {
+        exchange.touch(rt, outlet, 0..count, 1);
+    }
+    assert!(rt; SENDER < exchange.tables.clients());
+    for n in 0..count {
+        exchange.tables.withdraw(SENDER, prefix(rt, n));
+    }
+    for outlet in outlets.iter_mut() {
+        exchange.decides(rt, outlet, some(count as usize));
+    }
+}
+
+/// While two members wait to be told that routes are gone, what they were told lies in the blocks that they shared: each set has
+/// an owner there for each of its two prefixes, and one here. Once they are told, there is the one alone.
+#[test]
+fn what_two_were_told_is_there_once(rt: HostRuntime) {
+    let mut exchange = Exchange::of(&rt, rt.alloc(), STRIPPED);
+    announce(&rt, &mut exchange, SETS, 2, false);
+    let mut choices = Choices::new(rt.alloc());
+    let mut outlets = [
+        turned(&rt, &exchange, CLIENT, &mut choices),
+        turned(&rt, &exchange, CLIENT + 1, &mut choices),
+    ];
+    drop(choices);
+    let [first, alike] = &mut outlets;
+    share_rows(first, alike);
+    let told = first.route(&prefix(&rt, 0), &exchange.tables);
+    let told = told.expect(&rt, "a route").clone().expect(&rt, "an owner");
+    drain(&rt, &exchange, first);
+    drain(&rt, &exchange, alike);
+    take_back(&rt, &mut exchange, &mut outlets, SETS);
+    let [first, alike] = &mut outlets;
+    share_rows(first, alike);
+    equals(&rt, Arc::strong_count(&told), 3);
+    drain(&rt, &exchange, first);
+    drain(&rt, &exchange, alike);
+    equals(&rt, Arc::strong_count(&told), 1);
+    let [first, _] = outlets;
     let_go(exchange, first);
 }
 

@@ -1,7 +1,7 @@
 use Rattle.std.proofs.Common.{◌≡◌, Option, IfSome, true, refl, sym, subst, ◌/◌, arith}
 use Rattle.rs_rows.specs.Rows.{Listed, IsPrepared}
 use Rattle.rs_rows.specs.Blocks.{is_own, rows_in}
-use Rattle.rs_rows.specs.declared.block.Block.{Block}
+use Rattle.rs_rows.specs.declared.draft.Draft.{Draft}
 use Rattle.rs_rows.specs.declared.part.Part.TheVariants as part
 use Rattle.rs_rows.proofs.Listing.{block_below, own_here, own_kept, own_there, rows_still, some_part}
 use Rattle.rs_rows.proofs.blocks.Blocks.prepare.Goals as goal
@@ -20,7 +20,7 @@ pub returns-in_default-clause-prepared : goal.returns-in_default-clause-prepared
 returns-in_default-clause-prepared c =
     let ps = c.self.inside.parts.items in
     let below = block_below ps _ c.args.number c.self.view_is c.requires in
-    let own : is_own c.index.result.now ≡ true = c.in_ok-block.ensures.own c.in_default.is in
+    let own : is_own c.index.result.now ≡ true = c.in_ok-draft.ensures.own c.in_default.is in
     subst (λ (v : Listed). IsPrepared v.prepared c.args.number) c.self.view_is
     (own_there ps (c.args.number / 16) c.index.result.now (some_part ps (c.args.number / 16) c.index.result.now below c.index.ensures) own)
 
@@ -28,15 +28,15 @@ pub returns-clause-rows : goal.returns-clause-rows
 returns-clause-rows c =
     let ps = c.self.inside.parts.items in
     let below = block_below ps _ c.args.number c.self.view_is c.requires in
-    let same = subst (λ (o : Option Block). IfSome o (λ block. block.rows.items ≡ rows_in c.index.result.now)) c.in-Some.is c.in_ok-block.ensures.rows in
-    rows_still ps _ c.self.view_is (c.args.number / 16) c.index.result.now (part.Own c.in-Some.block) below c.index.ensures same
+    let same = subst (λ (o : Option Draft). IfSome o (λ draft. draft.cells.items ≡ rows_in c.index.result.now)) c.in-Some.is c.in_ok-draft.ensures.rows in
+    rows_still ps _ c.self.view_is (c.args.number / 16) c.index.result.now (part.Own c.in-Some.draft) below c.index.ensures same
 
 pub returns-clause-prepared : goal.returns-clause-prepared
 returns-clause-prepared c =
     let ps = c.self.inside.parts.items in
-    own_here ps (c.args.number / 16) (part.Own c.in-Some.block) refl (block_below ps _ c.args.number c.self.view_is c.requires)
+    own_here ps (c.args.number / 16) (part.Own c.in-Some.draft) refl (block_below ps _ c.args.number c.self.view_is c.requires)
 
 pub returns-clause-kept : goal.returns-clause-kept
 returns-clause-kept c = λ n own.
-    own_kept c.self.inside.parts.items (c.args.number / 16) (n / 16) (part.Own c.in-Some.block) refl
+    own_kept c.self.inside.parts.items (c.args.number / 16) (n / 16) (part.Own c.in-Some.draft) refl
     (subst (λ (v : Listed). IsPrepared v.prepared n) (sym c.self.view_is) own)

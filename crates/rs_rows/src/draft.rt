@@ -1,0 +1,120 @@
+//! A block that one client writes.
+
+ghost use Rattle.std.specs.Prelude.{◌≡◌, ◌<◌, None, Some, option_map, IfOk, IsTrue, replicate, slice_set, vec_len};
+ghost use Rattle.std.specs.Arc.{arc_value};
+ghost use Rattle.rs_rows.specs.Rows.{row_at, shown};
+ghost use Rattle.rs_rows.specs.Places.{lent_row};
+ghost use Rattle.rs_rows.specs.Cells.{taken_of};
+
+use crate::block::{Block, ROWS};
+use crate::cell::Cell;
+use crate::place::Lent;
+use crate::taken::Taken;
+use rs_attrs::Attrs;
+use rs_octets::Prefix;
+use std::alloc::{AllocError, Global};
+use std::sync::Arc;
+
+/// The rows of neighbouring numbers, as they can be written.
+#[derive(Drop)]
+pub(crate) struct Draft {
+    pub(crate) cells: Vec<Cell>,
+    ghost full: { vec_len cells ≡ 16 },
+}
+
+impl Draft {
+    /// A block whose rows are free.
+    pub(crate) fn free(alloc: Global) -> Result<Draft, AllocError>
+        ensures { IfOk result (λ draft. draft.cells.items ≡ replicate 16 None) }
+    {
+        let mut cells = Vec::with_capacity(alloc, ROWS)?;
+        for _ in 0..ROWS {
+            cells.push_reserved(Cell::free());
+        }
+        Ok(Draft { cells })
+    }
+
+    /// The rows of a block once more, each as an owner more of its attributes.
+    pub(crate) fn copy(alloc: Global, block: &Block) -> Result<Draft, AllocError>
+        ensures { IfOk result (λ draft. draft.cells.items ≡ block.now.rows.items) }
+    {
+        let mut cells = Vec::with_capacity(alloc, ROWS)?;
+        for place in &block.rows {
+            cells.push_reserved(Cell::here(place.copy()?));
+        }
+        Ok(Draft { cells })
+    }
+
+    /// The rows of a block once more, each as a share of the block.
+    pub(crate) fn over(alloc: Global, block: &Arc<Block>) -> Result<Draft, AllocError>
+        ensures { IfOk result (λ draft. draft.cells.items ≡ (arc_value block.now).rows.items) }
+    {
+        let mut cells = Vec::with_capacity(alloc, ROWS)?;
+        for index in 0..ROWS {
+            cells.push_reserved(Cell::within(block, index as u8)?);
+        }
+        Ok(Draft { cells })
+    }
+
+    /// The row at an index, where it has a route.
+    pub(crate) fn at(&self, index: usize) -> Option<Lent<'_>>
+        ensures { option_map lent_row result ≡ row_at self.now.cells.items index }
+    {
+        match self.cells.get(index) {
+            Some(cell) => cell.row(),
+            None => None,
+        }
+    }
+
+    /// Takes the route out of the row at an index.
+    pub(crate) fn take(&mut self, index: usize) -> Taken
+        requires { index < 16 }
+        ensures rows { self.new.cells.items ≡ slice_set self.old.cells.items index None }
+        ensures was { taken_of result ≡ shown (row_at self.old.cells.items index) }
+    {
+        self.cells[index].take()
+    }
+
+    /// Puts a route into the row at an index.
+    pub(crate) fn put(&mut self, index: usize, prefix: Prefix, attrs: Arc<Attrs>)
+        requires { index < 16 }
+        ensures { self.new.cells.items ≡ slice_set self.old.cells.items index (Some (record { prefix = prefix; attributes = arc_value attrs })) }
+    {
+        self.cells[index] = Cell::of(prefix, attrs);
+    }
+
+    /// Whether all rows are free.
+    pub(crate) fn is_free(&self) -> bool
+        ensures { IsTrue result → self.now.cells.items ≡ replicate 16 None }
+    {
+        for cell in &self.cells {
+            if !cell.is_free() {
+                return false;
+            }
+        }
+        true
+    }
+
+    /// Whether a block has the same rows.
+    pub(crate) fn is_same(&self, block: &Block) -> bool
+        ensures { IsTrue result → block.now.rows.items ≡ self.now.cells.items }
+    {
+        for index in 0..ROWS {
+            if !self.cells[index].is_same(&block.rows[index]) {
+                return false;
+            }
+        }
+        true
+    }
+
+    /// A block of the same rows, which can be shared.
+    pub(crate) fn close(&self, alloc: Global) -> Result<Block, AllocError>
+        ensures { IfOk result (λ block. block.rows.items ≡ self.now.cells.items) }
+    {
+        let mut rows = Vec::with_capacity(alloc, ROWS)?;
+        for cell in &self.cells {
+            rows.push_reserved(cell.copy()?);
+        }
+        Ok(Block { rows })
+    }
+}
