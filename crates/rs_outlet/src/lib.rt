@@ -8,8 +8,8 @@
 //! - `outlet` has the calls that change an `Outlet`, `queries` those that ask it; `answers` is what it
 //!   knows of its client, and what a turn answers; `sizes` says how much room a message has.
 //! - `touched` is what the next turn decides; `turn` decides it, by `deciding`, which says what is
-//!   due at one prefix; `memo` is what it leaves to the next prefix, `choices` and `stripped` to the
-//!   outlets that turn next.
+//!   due at one prefix, and `chosen`, which says whose route is the best; `memo` is what it leaves to the
+//!   next prefix, `choices` and `stripped` to the outlets that turn next.
 //! - `changes` puts that into `rows`, the Loc-RIB by number in a `table` of blocks that outlets share, and into
 //!   `waiting`, what is to be sent: slots in two `parts`, of which `merging` makes one. `marking` makes all that was
 //!   told wait again.
@@ -23,6 +23,7 @@
 mod answers;
 mod changes;
 mod choices;
+mod chosen;
 mod deciding;
 mod fill;
 pub mod laws;

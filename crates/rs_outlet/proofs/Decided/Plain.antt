@@ -1,5 +1,5 @@
 -- Where no pattern takes anything out, attributes stay as they are.
-use Rattle.std.proofs.Common.{ℕ, ◌≡◌, List, [], ◌∷◌, false, refl}
+use Rattle.std.proofs.Common.{◌≡◌, List, [], ◌∷◌, false, refl}
 use Rattle.rs_octets.proofs.Members.{any_false}
 use Rattle.rs_attrs.specs.Getters.{communities_of, large_communities_of}
 use Rattle.rs_attrs.specs.Meaning.{Attribute}

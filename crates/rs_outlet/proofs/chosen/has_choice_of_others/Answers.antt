@@ -4,7 +4,7 @@ use Rattle.rs_outlet.specs.Decided.HeldBy.{held_by}
 use Rattle.rs_outlet.proofs.Decided.Lent.{choice_of_others}
 use Rattle.rs_outlet.proofs.Decided.Ranks.{senders_known, sent}
 use Rattle.rs_outlet.proofs.Decided.Shared.{same_choice}
-use Rattle.rs_outlet.proofs.deciding.has_choice_of_others.Goals as goal
+use Rattle.rs_outlet.proofs.chosen.has_choice_of_others.Goals as goal
 
 pub returns-then-is_absent : goal.returns-then-is_absent
 returns-then-is_absent c _ other alike none is =

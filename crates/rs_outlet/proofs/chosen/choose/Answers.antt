@@ -6,7 +6,7 @@ use Rattle.rs_outlet.specs.Decided.Due.{ranks_among}
 use Rattle.rs_outlet.specs.Decided.HeldBy.{held_by}
 use Rattle.rs_outlet.proofs.Decided.Ranks.{distinct_places, past, ranked_at, senders_known, sent}
 use Rattle.rs_outlet.proofs.Decided.Shared.{chosen_by}
-use Rattle.rs_outlet.proofs.deciding.choose.Goals as goal
+use Rattle.rs_outlet.proofs.chosen.choose.Goals as goal
 
 pub rank_all-requires-clause-known : goal.rank_all-requires-clause-known
 rank_all-requires-clause-known c =

@@ -4,7 +4,7 @@ use Rattle.std.proofs.lemmas.List.Elements.{All-rest}
 use Rattle.rs_policy.specs.Noted.{note_of_import}
 use Rattle.rs_outlet.specs.Decided.HeldBy.{held_by}
 use Rattle.rs_outlet.proofs.Decided.Ranks.{sent, taken_some, taken_none}
-use Rattle.rs_outlet.proofs.deciding.rank_all.Goals as goal
+use Rattle.rs_outlet.proofs.chosen.rank_all.Goals as goal
 
 pub loop-holder-preserved-in-Continue-1 : goal.loop-holder-preserved-in-Continue-1
 loop-holder-preserved-in-Continue-1 c = record {

@@ -1,7 +1,7 @@
 use Rattle.std.proofs.Common.{◌<◌, length, map, All}
 use Rattle.rs_outlet.specs.Decided.Choices.{IsAloneOfItsAs}
 use Rattle.rs_outlet.specs.Decided.HeldBy.{held_by}
-use Rattle.rs_outlet.proofs.deciding.is_alone_of_its_as.Given as goal
+use Rattle.rs_outlet.proofs.chosen.is_alone_of_its_as.Given as goal
 
 abbrev pub invariant-loop-holder : goal.invariant-loop-holder
 invariant-loop-holder l = record {

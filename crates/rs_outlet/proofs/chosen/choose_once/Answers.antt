@@ -3,7 +3,7 @@ use Rattle.rs_outlet.specs.Decided.Choices.{AreChoices, chosen}
 use Rattle.rs_outlet.specs.Decided.HeldBy.{held_by}
 use Rattle.rs_outlet.proofs.Decided.Numbering.{number_once}
 use Rattle.rs_outlet.proofs.Decided.Shared.{still_choices}
-use Rattle.rs_outlet.proofs.deciding.choose_once.Goals as goal
+use Rattle.rs_outlet.proofs.chosen.choose_once.Goals as goal
 
 pub returns-then-is_absent-clause-choices : goal.returns-then-is_absent-clause-choices
 returns-then-is_absent-clause-choices c =

@@ -7,8 +7,8 @@ use Rattle.rs_policy.specs.Configuration.{client_of}
 use Rattle.rs_outlet.specs.Decided.Choices.{IsAloneOfItsAs}
 use Rattle.rs_outlet.specs.Decided.HeldBy.{held_by}
 use Rattle.rs_outlet.proofs.Decided.Lent.{alone_with}
-use Rattle.rs_outlet.proofs.deciding.is_alone_of_its_as.Goals as goal
-use Rattle.rs_outlet.proofs.deciding.is_alone_of_its_as.Goals.{else-holder-sources-via-then-holder-sources+else-client_as-own, else-holder-sources-via-else-holder-sources}
+use Rattle.rs_outlet.proofs.chosen.is_alone_of_its_as.Goals as goal
+use Rattle.rs_outlet.proofs.chosen.is_alone_of_its_as.Goals.{else-holder-sources-via-then-holder-sources+else-client_as-own, else-holder-sources-via-else-holder-sources}
 
 pub loop-holder-preserved : goal.loop-holder-preserved
 loop-holder-preserved c =
