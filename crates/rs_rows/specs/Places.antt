@@ -9,7 +9,7 @@ use Rattle.rs_rows.specs.declared.place.Lent.{Lent}
 
 abbrev pub row_of : Held → Option Row
 row_of held.Free = None
-row_of (held.Taken len bits attrs) = Some (record { prefix = record { bits = bits; len = len }; attributes = arc_value attrs })
+row_of (held.Taken len hash bits attrs) = Some (record { prefix = record { bits = bits; len = len }; attributes = arc_value attrs })
 
 -- what is held has a prefix that there is
 abbrev pub IsPlace : Held → Type 0

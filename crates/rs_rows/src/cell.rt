@@ -124,6 +124,14 @@ impl Cell {
         }
     }
 
+    /// Whether a place may have the same row, as far as is seen without a look at attributes.
+    pub(crate) fn may_be_same(&self, other: &Place) -> bool {
+        match self.place() {
+            None => other.is_free(),
+            Some(place) => place.may_be_same(other),
+        }
+    }
+
     /// Whether a place has the same row.
     pub(crate) fn is_same(&self, other: &Place) -> bool
         ensures { IsTrue result → other.now ≡ self.now }

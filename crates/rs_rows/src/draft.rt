@@ -95,10 +95,23 @@ impl Draft {
         true
     }
 
+    /// Whether a block may have the same rows, as far as is seen without a look at attributes.
+    fn may_be_same(&self, block: &Block) -> bool {
+        for index in 0..ROWS {
+            if !self.cells[index].may_be_same(&block.rows[index]) {
+                return false;
+            }
+        }
+        true
+    }
+
     /// Whether a block has the same rows.
     pub(crate) fn is_same(&self, block: &Block) -> bool
         ensures { IsTrue result → block.now.rows.items ≡ self.now.cells.items }
     {
+        if !self.may_be_same(block) {
+            return false;
+        }
         for index in 0..ROWS {
             if !self.cells[index].is_same(&block.rows[index]) {
                 return false;

@@ -14,12 +14,13 @@ use std::mem;
 use std::sync::Arc;
 
 /// What lies in a place. The prefix's length and bits stand beside the variant's tag, where a `Prefix` would take eight
-/// octets more.
+/// octets more; between them there is room for half of the attributes' hash.
 #[derive(Drop)]
 pub(crate) enum Held {
     Free,
     Taken {
         len: u8,
+        hash: u16,
         bits: u32,
         attrs: Arc<Attrs>,
     },
@@ -63,6 +64,7 @@ impl Place {
         Place {
             held: Held::Taken {
                 len: prefix.len(),
+                hash: half_hash(&attrs),
                 bits: prefix.bits(),
                 attrs,
             },
@@ -75,7 +77,12 @@ impl Place {
     {
         match &self.held {
             Held::Free => None,
-            Held::Taken { len, bits, attrs } => Some(Lent {
+            Held::Taken {
+                len,
+                bits,
+                attrs,
+                ..
+            } => Some(Lent {
                 prefix: Prefix::new(*bits, *len)?,
                 attrs,
             }),
@@ -106,9 +113,15 @@ impl Place {
     {
         match &self.held {
             Held::Free => Ok(Place::free()),
-            Held::Taken { len, bits, attrs } => Ok(Place {
+            Held::Taken {
+                len,
+                hash,
+                bits,
+                attrs,
+            } => Ok(Place {
                 held: Held::Taken {
                     len: *len,
+                    hash: *hash,
                     bits: *bits,
                     attrs: attrs.clone()?,
                 },
@@ -116,29 +129,41 @@ impl Place {
         }
     }
 
+    /// Whether another row may be the same, as far as is seen without a look at attributes.
+    pub(crate) fn may_be_same(&self, other: &Place) -> bool {
+        match (&self.held, &other.held) {
+            (Held::Free, Held::Free) => true,
+            (
+                Held::Taken {
+                    len,
+                    hash,
+                    bits,
+                    ..
+                },
+                Held::Taken {
+                    len: other_len,
+                    hash: other_hash,
+                    bits: other_bits,
+                    ..
+                },
+            ) => bits == other_bits && hash == other_hash && len == other_len,
+            _ => false,
+        }
+    }
+
     /// Whether another row is the same.
     pub(crate) fn is_same(&self, other: &Place) -> bool
         ensures { IsTrue result → other.now ≡ self.now }
     {
-        match (&self.held, &other.held) {
-            (Held::Free, Held::Free) => true,
-            (
-                Held::Taken { len, bits, attrs },
-                Held::Taken {
-                    len: other_len,
-                    bits: other_bits,
-                    attrs: other_attrs,
-                },
-            ) => {
-                if len != other_len {
-                    return false;
-                }
-                if bits != other_bits {
-                    return false;
-                }
-                **attrs == **other_attrs
-            }
+        match (self.row(), other.row()) {
+            (None, None) => true,
+            (Some(row), Some(other)) => row.prefix == other.prefix && **row.attrs == **other.attrs,
             _ => false,
         }
     }
+}
+
+/// Half of the hash of attributes, by which most rows that differ are told apart.
+fn half_hash(attrs: &Attrs) -> u16 {
+    (attrs.kept_hash() % 0x1_0000) as u16
 }
