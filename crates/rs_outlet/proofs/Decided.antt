@@ -13,6 +13,7 @@ pub mod Memo
 pub mod OthersAlone
 pub mod Shared
 pub mod Lent
+pub mod Next
 pub mod Plain
 pub mod Counting
 pub mod Left

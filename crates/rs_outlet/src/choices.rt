@@ -10,12 +10,14 @@ use std::alloc::Global;
 /// How many choices are kept.
 const MOST: usize = 65_536;
 
-/// A choice that was made for a client: whose route is the best for the prefix of a number, if any is.
+/// A choice that was made for a client: whose route is the best for the prefix of a number, if any is, and whose is the
+/// best without that one's, which is the choice for that one itself.
 #[derive(Clone, Copy)]
 pub(crate) struct Choice {
     pub(crate) number: u32,
     pub(crate) client: usize,
     pub(crate) place: Option<usize>,
+    pub(crate) next: Option<usize>,
 }
 
 /// Choices by rising number, as outlets go over what was touched.

@@ -1,14 +1,16 @@
 //! Whose route is the best for a client at a prefix (RFC 4271, 9.1.2; RFC 7947, 2.3): of the candidates among its holders, or
 //! as it was chosen for another client before, where that is this one's choice too.
 
-ghost use Rattle.std.specs.Prelude.{◌≡◌, ◌<◌, ℕ, IsTrue, length, map, Some, None, IfOk, OnOk, All, IfSome};
+ghost use Rattle.std.specs.Prelude.{◌≡◌, ◌<◌, ℕ, IsTrue, length, map, Some, None, IfOk, OnOk, All, IfSome, option_map};
 ghost use Rattle.std.specs.Arc.{arc_value};
 ghost use Rattle.rs_adjin.specs.AdjIns.{client_count, held_of, number_of, ListsHolders};
 ghost use Rattle.rs_policy.specs.Noted.{note_of_import};
+ghost use Rattle.rs_decision.specs.Best.{HasDistinctPlaces};
+ghost use Rattle.rs_decision.specs.Choice.{best_of};
 ghost use Rattle.rs_outlet.specs.Decided.Due.{rank_of, rank_to, ranks_among};
 ghost use Rattle.rs_outlet.specs.Decided.HeldBy.{held_by, AreOfOneServer};
 ghost use Rattle.rs_octets.specs.Prefixes.{Prefix};
-ghost use Rattle.rs_outlet.specs.Decided.Choices.{AreChoices, AreJudgedAlike, IsAloneOfItsAs, chosen};
+ghost use Rattle.rs_outlet.specs.Decided.Choices.{AreChoices, AreJudgedAlike, IsAloneOfItsAs, chosen, without};
 
 use crate::choices::{Choice, Choices};
 use crate::deciding::{Draft, Sources, fate, is_kept_back};
@@ -76,6 +78,20 @@ fn rank_all(
     Ok(())
 }
 
+/// Whose rank is the best of these, if there is one.
+fn best_place(ranks: &[Rank]) -> Option<usize>
+    requires { HasDistinctPlaces ranks.now }
+    ensures { result ≡ option_map (λ rank. rank.place) (best_of ranks.now) }
+{
+    let Some(index) = best(ranks) else {
+        return None;
+    };
+    match ranks.get(index) {
+        None => None,
+        Some(rank) => Some(rank.place),
+    }
+}
+
 /// Whose route is the best of the candidates among those of these holders, if there is one.
 fn choose(
     sources: &Sources<'_>,
@@ -86,16 +102,11 @@ fn choose(
     requires holders { ListsHolders sources.now.ins.now prefix.now (map (λ h. h.0) holders) }
     requires server { AreOfOneServer sources.now }
     requires notes { All (λ h. h.1 ≡ note_of_import sources.now.config.now h.0.0 prefix.now h.0.1) holders }
-    ensures { IfOk result (λ place. place ≡ chosen (held_by sources.now) sources.now.client prefix.now) }
+    ensures chosen { IfOk result (λ place. place ≡ chosen (held_by sources.now) sources.now.client prefix.now) }
+    ensures ranks { OnOk result (ranks.new.items ≡ ranks_among (held_by sources.now) sources.now.client prefix.now (map (λ h. h.0) holders.entry)) }
 {
     rank_all(sources, prefix, holders, ranks)?;
-    let Some(index) = best(ranks) else {
-        return Ok(None);
-    };
-    match ranks.get(index) {
-        None => Ok(None),
-        Some(rank) => Ok(Some(rank.place)),
-    }
+    Ok(best_place(ranks))
 }
 
 /// Whether none but the client is of its AS among these holders, so that MULTI_EXIT_DISC of its own route tells against none
@@ -143,17 +154,34 @@ fn has_choice_of_others(
     }
 }
 
-/// The choice that was made for a client before, if it is this one's too.
+/// Keeps the ranks of other clients than this one.
+fn keep_others(ranks: &mut Vec<Rank>, client: usize)
+    ensures { ranks.new.items ≡ without client ranks.old.items }
+{
+    ranks.retain(|rank| rank.place != client);
+}
+
+/// Whose route is the best of these without that of the best one.
+fn choose_next(ranks: &mut Vec<Rank>, place: Option<usize>) -> Option<usize>
+    requires { HasDistinctPlaces ranks.old.items }
+    ensures { (best : ℕ) → place ≡ Some best → result ≡ option_map (λ rank. rank.place) (best_of (without best ranks.old.items)) }
+{
+    let place = place?;
+    keep_others(ranks, place);
+    best_place(ranks)
+}
+
+/// Whose route is the best for the client by a choice that was made for another before, if that tells.
 fn chosen_before(
     sources: &Sources<'_>,
     number: u32,
     prefix: &Prefix,
     choices: &mut Choices,
-) -> Option<Choice>
+) -> Option<Option<usize>>
     requires number { number_of sources.now.ins.now prefix.now ≡ Some number }
     requires server { AreOfOneServer sources.now }
     requires choices { AreChoices (held_by sources.now) sources.now.ins.now choices.old.kept.items }
-    ensures chosen { IfSome result (λ choice. choice.place ≡ chosen (held_by sources.now) sources.now.client prefix.now) }
+    ensures chosen { IfSome result (λ place. place ≡ chosen (held_by sources.now) sources.now.client prefix.now) }
     ensures kept { choices.new.kept.items ≡ choices.old.kept.items }
 {
     let Some(choice) = choices.find(number) else {
@@ -162,15 +190,18 @@ fn chosen_before(
     if !judges_alike(sources.config, choice.client, sources.client) {
         return None;
     }
+    if choice.place == Some(sources.client) {
+        return Some(choice.next);
+    }
     if has_choice_of_others(sources, number, prefix, choice.place) {
-        Some(choice)
+        Some(choice.place)
     } else {
         None
     }
 }
 
 /// Whose route is the best, found once for all clients that are decided alike: those without export rules. It is kept where the
-/// client has no route for the prefix itself.
+/// client has no route for the prefix itself, with the choice of the client whose route it is.
 pub(crate) fn choose_once(
     sources: &Sources<'_>,
     number: u32,
@@ -190,15 +221,17 @@ pub(crate) fn choose_once(
     if !judges_alike(sources.config, sources.client, sources.client) {
         return choose(sources, prefix, holders, &mut draft.ranks);
     }
-    if let Some(choice) = chosen_before(sources, number, prefix, &mut draft.choices) {
-        return Ok(choice.place);
+    if let Some(place) = chosen_before(sources, number, prefix, &mut draft.choices) {
+        return Ok(place);
     }
     let place = choose(sources, prefix, holders, &mut draft.ranks)?;
     if is_absent(sources, number) {
+        let next = choose_next(&mut draft.ranks, place);
         draft.choices.keep(Choice {
             number,
             client: sources.client,
             place,
+            next,
         });
     }
     Ok(place)

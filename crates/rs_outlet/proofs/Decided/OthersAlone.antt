@@ -23,7 +23,7 @@ own : (c : ℕ) → (c == c) ≡ true
 own c = grind (arith, nat_tests)
 
 -- a client's own route is no candidate
-own_none : (t : Held) (c : ℕ) (p : Prefix) (m : List Attribute) → rank_to t c p (c, m) ≡ None
+pub own_none : (t : Held) (c : ℕ) (p : Prefix) (m : List Attribute) → rank_to t c p (c, m) ≡ None
 own_none t c p m = ap (λ b. cond (b || path_has_of t.settings.top.server_as m) None (rank_by t c m (verdict t.settings c c p m))) (own c)
 
 own_left : (t : Held) (c : ℕ) (p : Prefix) (o : Option (List Attribute)) (hs : List (ℕ × List Attribute)) → ranks_among t c p (with_holder c o hs) ≡ ranks_among t c p hs

@@ -1,6 +1,6 @@
 -- The choice at a prefix, and the choices that are kept in a turn.
-use Rattle.std.specs.Prelude.{◌≡◌, ◌≢◌, ◌⊎◌, ◌<◌, ℕ, List, [], ◌∷◌, ◌++◌, Option, None, option_map, length, Some}
-use Rattle.std.specs.List.{All, AllByRecursion}
+use Rattle.std.specs.Prelude.{◌≡◌, ◌≢◌, ◌⊎◌, ◌<◌, ◌==◌, not, ℕ, List, [], ◌∷◌, ◌++◌, Option, None, option_map, length, Some}
+use Rattle.std.specs.List.{All, AllByRecursion, filter}
 use Rattle.rs_attrs.specs.Meaning.{Attribute}
 use Rattle.rs_octets.specs.Prefixes.{Prefix}
 use Rattle.rs_adjin.specs.AdjIns.{number_of}
@@ -8,6 +8,7 @@ use Rattle.rs_adjin.specs.declared.adj_ins.AdjIns.{AdjIns}
 use Rattle.rs_policy.specs.Configuration.{client_of}
 use Rattle.rs_policy.specs.Verdicts.{verdict}
 use Rattle.rs_decision.specs.Choice.{best_of}
+use Rattle.rs_decision.specs.declared.rank.Rank.{Rank}
 use Rattle.rs_outlet.specs.declared.choices.Choice.{Choice}
 use Rattle.rs_outlet.specs.Decided.Due.{Held, holders_at, ranks_among}
 
@@ -23,10 +24,16 @@ AreJudgedAlike t c d = (from : ℕ) (p : Prefix) (m : List Attribute) → from <
 abbrev pub IsAloneOfItsAs : Held → ℕ → List (ℕ × List Attribute) → Type 0
 IsAloneOfItsAs t c holders = All (λ h. h.0 ≢ c → (client_of t.settings h.0).client_as ≢ (client_of t.settings c).client_as) holders
 
--- a choice is that of its client, which has no route for the prefix itself
+-- candidates but for a client's own
+abbrev pub without : ℕ → List Rank → List Rank
+without c ranks = filter (λ r. not (r.place == c)) ranks
+
+-- a choice is that of its client, which has no route for the prefix itself; beside it stands that of the client whose route is
+-- the best
 pub record IsChoice (t : Held) (ins : AdjIns) (choice : Choice) : Type 0 where
   pub known : choice.client < length t.settings.clients
   pub absent : (p : Prefix) → number_of ins p ≡ Some choice.number → t.held choice.client p ≡ None
+  pub next : (p : Prefix) (best : ℕ) → number_of ins p ≡ Some choice.number → choice.place ≡ Some best → AreJudgedAlike t choice.client best → chosen t best p ≡ choice.next
   pub chosen : (p : Prefix) → number_of ins p ≡ Some choice.number → chosen t choice.client p ≡ choice.place
 
 abbrev pub AreChoices : Held → AdjIns → List Choice → Type 0
