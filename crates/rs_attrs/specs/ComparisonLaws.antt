@@ -1,15 +1,16 @@
 -- The laws of equality, order and hash of attributes. The impls of `Attrs` cite these.
-use Rattle.std.proofs.Common.{◌≡◌, ℕ, List, [], ◌∷◌, ◌++◌, length, refl, ap, ◌==◌, true, false, Bool, ◌&&◌, subst, arith, bytes_eq}
+use Rattle.std.proofs.Common.{◌≡◌, ℕ, List, [], ◌∷◌, ◌++◌, length, refl, ap, ◌==◌, true, Bool, ◌&&◌, subst, arith, bytes_eq}
 use Rattle.std.specs.Bool.{Decides}
-use Rattle.std.specs.Cmp.{Equal-is, IsEquivalence, IsTotalOrder, first_so, second_so, decided, nat_cmp_total, bool_cmp_total, on_total, then_total, tied_itself, unsigned_Decides, booleans_Decides}
+use Rattle.std.specs.Cmp.{Equal-is, IsEquivalence, IsTotalOrder, first_so, second_so, decided, on_total, then_total, tied_itself, unsigned_Decides, booleans_Decides}
 use Rattle.std.specs.Cmp.Lexicographic.{lists_total, nat_list_cmp_total, pointwise_decides, bytes_decides, slice_cmp}
-use Rattle.std.specs.Ordering.{eq_by_cmp, is_eq, ordering_then, nat_cmp, bool_cmp}
-use Rattle.std.specs.declared.cmp.Ordering.{Ordering}
-use Rattle.std.specs.declared.cmp.Ordering.TheVariants.{Less, Equal, Greater}
+use Rattle.std.specs.Ordering.{eq_by_cmp, is_eq, nat_cmp}
+use Rattle.std.specs.declared.cmp.Ordering.TheVariants.{Equal}
 use Rattle.std.specs.FinMap.{nat_cmp-IsAntisymmetric, slice_cmp-IsAntisymmetric}
 use Rattle.std.proofs.lemmas.Bool.Decides.{same_from_decides}
 use mathlib.Core.Bool.{beq}
 use Rattle.rs_attrs.specs.Meaning.{Attribute}
+use Rattle.rs_attrs.specs.Heads.{Head}
+use Rattle.rs_attrs.specs.HeadLaws.{head_order_total, then_first, then_second, untied_heads}
 use Rattle.rs_attrs.specs.Comparing.{same_attribute, same_attributes, octets_of, head_cmp, attributes_cmp, attributes_writes}
 
 same_itself : (a : Attribute) → same_attribute a a ≡ true
@@ -45,38 +46,17 @@ attributes_decides m n = pointwise_decides attribute_decides m n
 pub same_attributes_equiv : IsEquivalence same_attributes
 same_attributes_equiv = decided same_attributes attributes_decides
 
+abbrev pub head_of : Attribute → Head
+head_of a = record { kind = a.kind; optional = a.optional; transitive = a.transitive; partial = a.partial; len = length a.value }
+
 pub head_cmp_total : IsTotalOrder head_cmp
-head_cmp_total =
-    then_total (on_total (λ a. a.kind) nat_cmp_total)
-    (then_total (on_total (λ a. a.optional) bool_cmp_total)
-    (then_total (on_total (λ a. a.transitive) bool_cmp_total)
-    (then_total (on_total (λ a. a.partial) bool_cmp_total)
-    (on_total (λ a. length a.value) nat_cmp_total))))
+head_cmp_total = on_total head_of head_order_total
 
 pub attributes_cmp_total : IsTotalOrder attributes_cmp
 attributes_cmp_total = then_total (lists_total head_cmp_total) (on_total octets_of nat_list_cmp_total)
 
-then_first : (r s : Ordering) → ordering_then r s ≡ Equal → r ≡ Equal
-then_first Less s e = cc e
-then_first Equal s e = refl
-then_first Greater s e = cc e
-
-then_second : (r s : Ordering) → ordering_then r s ≡ Equal → s ≡ Equal
-then_second Less s e = cc e
-then_second Equal s e = e
-then_second Greater s e = cc e
-
-same_numbers : (x y : ℕ) → nat_cmp x y ≡ Equal → x ≡ y
-same_numbers = nat_cmp-IsAntisymmetric
-
 same_octets : (xs ys : List ℕ) → slice_cmp nat_cmp xs ys ≡ Equal → xs ≡ ys
 same_octets = slice_cmp-IsAntisymmetric nat_cmp-IsAntisymmetric
-
-same_flags : (x y : Bool) → bool_cmp x y ≡ Equal → x ≡ y
-same_flags true true e = refl
-same_flags true false e = cc e
-same_flags false true e = cc e
-same_flags false false e = refl
 
 -- two fronts as long as each other
 same_parts : (xs ys vs ws : List ℕ) → length xs ≡ length ys → xs ++ vs ≡ ys ++ ws → (xs ≡ ys) × (vs ≡ ws)
@@ -94,18 +74,10 @@ untied [] [] e o = refl
 untied [] (b ∷ n) e o = cc e
 untied (a ∷ m) [] e o = cc e
 untied (a ∷ m) (b ∷ n) e o =
-    let here : head_cmp a b ≡ Equal = then_first (head_cmp a b) (slice_cmp head_cmp m n) e in
-    let kind = same_numbers a.kind b.kind (then_first (nat_cmp a.kind b.kind) _ here) in
-    let flags = then_second (nat_cmp a.kind b.kind) _ here in
-    let optional = same_flags a.optional b.optional (then_first (bool_cmp a.optional b.optional) _ flags) in
-    let two = then_second (bool_cmp a.optional b.optional) _ flags in
-    let transitive = same_flags a.transitive b.transitive (then_first (bool_cmp a.transitive b.transitive) _ two) in
-    let one = then_second (bool_cmp a.transitive b.transitive) _ two in
-    let partial = same_flags a.partial b.partial (then_first (bool_cmp a.partial b.partial) _ one) in
-    let size = same_numbers (length a.value) (length b.value) (then_second (bool_cmp a.partial b.partial) _ one) in
-    let parts = same_parts a.value b.value (octets_of m) (octets_of n) size o in
+    let heads = untied_heads (head_of a) (head_of b) (then_first (head_cmp a b) (slice_cmp head_cmp m n) e) in
+    let parts = same_parts a.value b.value (octets_of m) (octets_of n) (ap (λ h. h.len) heads) o in
     let others = untied m n (then_second (head_cmp a b) (slice_cmp head_cmp m n) e) parts.1 in
-    λ i. record { kind = kind i; optional = optional i; transitive = transitive i; partial = partial i; value = parts.0 i } ∷ others i
+    λ i. record { kind = (heads i).kind; optional = (heads i).optional; transitive = (heads i).transitive; partial = (heads i).partial; value = parts.0 i } ∷ others i
 
 -- the order tells any two maps apart
 pub attributes_cmp_decides : (m n : List Attribute) → Decides (is_eq (attributes_cmp m n)) (m ≡ n)

@@ -2,8 +2,8 @@
 //!
 //! A head for each attribute, by rising type, and one run of octets, their values one after the
 //! other: two heap blocks, however many attributes there are. Whatever makes an `Attrs` proves that
-//! the heads have the lengths of the values and that the attributes are legal. Their hash is made with
-//! them, and kept.
+//! the heads have the lengths of the values and that the attributes are legal. Their hash and the
+//! marks of their path are made with them, and kept.
 
 ghost use Rattle.std.specs.Prelude.{◌≡◌, ◌↔◌, IsTrue, length, refl};
 ghost use Rattle.std.specs.Ordering.{as_partial_cmp};
@@ -14,20 +14,13 @@ ghost use Rattle.rs_attrs.specs.ComparisonLaws.{same_attributes_equiv, attribute
 ghost use Rattle.rs_attrs.specs.Held.{attributes_in, values_size};
 ghost use Rattle.rs_attrs.specs.Writing.{IsLegal};
 
+use crate::getters::path_in;
+use crate::heads::Head;
+use crate::path_marks::marks_of;
 use std::alloc::AllocError;
 use std::cmp::Ordering;
 use std::hash::{FoldHasher, Hash, Hasher};
 use std::marker::Model;
-
-/// An attribute but for its value.
-#[derive(Clone, Copy, Debug, PartialEq, Eq, PartialOrd, Ord, Hash)]
-pub(crate) struct Head {
-    pub(crate) kind: u8,
-    pub(crate) optional: bool,
-    pub(crate) transitive: bool,
-    pub(crate) partial: bool,
-    pub(crate) len: u32,
-}
 
 /// The attributes of a route, one of each type at most, with AS numbers in four octets whatever
 /// the peer spells; always legal (RFC 4271, 5; RFC 7606).
@@ -37,6 +30,8 @@ pub struct Attrs {
     pub(crate) values: Vec<u8>,
     /// The hash of all of them, computed once, where they are made.
     hash: u32,
+    /// The marks of AS_PATH's numbers, set there too.
+    pub(crate) path_marks: u32,
 }
 
 impl Model for Attrs {
@@ -49,7 +44,7 @@ impl Model for Attrs {
 
     ghost view = { λ a. attributes_in a.heads.items a.values.items };
 
-    ghost invariant = { λ a. IsHeld a.heads.items a.values.items a.hash };
+    ghost invariant = { λ a. IsHeld a.heads.items a.values.items a.hash a.path_marks };
 }
 
 /// The hash of the attributes that lie so.
@@ -64,17 +59,19 @@ fn hash_of(heads: &[Head], values: &[u8]) -> u32
 }
 
 impl Attrs {
-    /// The attributes that lie so. It hashes them.
+    /// The attributes that lie so. It hashes them, and marks the numbers of AS_PATH.
     pub(crate) fn of(heads: Vec<Head>, values: Vec<u8>) -> Attrs
         requires size { values_size heads.items ≡ length values.items }
         requires legal { IsLegal (attributes_in heads.items values.items) }
         ensures { result ≡ attributes_in heads.items values.items }
     {
         let hash = hash_of(&heads, &values);
+        let path_marks = marks_of(path_in(&heads, &values));
         Attrs {
             heads,
             values,
             hash,
+            path_marks,
         }
     }
 
@@ -95,6 +92,7 @@ impl Clone for Attrs {
             heads: self.heads.clone()?,
             values: self.values.clone()?,
             hash: self.hash,
+            path_marks: self.path_marks,
         })
     }
 }

@@ -7,9 +7,12 @@ ghost use Rattle.rs_attrs.specs.Held.{attributes_in, values_size};
 ghost use Rattle.rs_attrs.specs.Effects.{lacks_mandatory, missing_of};
 ghost use Rattle.rs_attrs.specs.Meaning.{get};
 ghost use Rattle.rs_attrs.specs.Paths.{segment_length};
+ghost use Rattle.rs_attrs.specs.Writing.{IsLegal};
 ghost use Rattle.rs_attrs.specs.Getters.{attribute_at, IsWellFormedAs, value_of, origin_of, path_of, next_hop_of, med_of, communities_of, large_communities_of, path_length_of, path_has_of, origin_as_of, tagged, large_tagged};
 
-use crate::attrs::{Attrs, Head};
+use crate::attrs::Attrs;
+use crate::heads::Head;
+use crate::path_marks::mark_of;
 use crate::patterns::LargeCommunities;
 use crate::segments::{Numbers, Segments};
 use crate::tags::Tags;
@@ -33,19 +36,42 @@ fn find<'a>(heads: &[Head], values: &'a [u8], kind: u8) -> Option<AttributeRef<'
 {
     let mut values = values;
     for head in heads {
-        let (value, rest) = values.split_at(head.len as usize);
-        if head.kind == kind {
+        let (value, rest) = values.split_at(head.len() as usize);
+        if head.kind() == kind {
             return Some(AttributeRef {
                 kind,
-                optional: head.optional,
-                transitive: head.transitive,
-                partial: head.partial,
+                optional: head.optional(),
+                transitive: head.transitive(),
+                partial: head.partial(),
                 value,
             });
         }
         values = rest;
     }
     None
+}
+
+/// The value of the attribute of a type, which is well formed.
+fn value_in<'a>(heads: &[Head], values: &'a [u8], kind: u8) -> Option<&'a [u8]>
+    requires size { values_size heads.now ≤ length values.now }
+    requires legal { IsLegal (attributes_in heads.now values.now) }
+    ensures value { option_map (λ value. value.now) result ≡ value_of kind (attributes_in heads.now values.now) }
+    ensures form { IfSome result (λ value. IsWellFormedAs kind value.now) }
+{
+    Some(find(heads, values, kind)?.value)
+}
+
+/// The segments of AS_PATH, none where there is no AS_PATH.
+pub(crate) fn path_in<'a>(heads: &[Head], values: &'a [u8]) -> Segments<'a>
+    requires size { values_size heads.now ≤ length values.now }
+    requires legal { IsLegal (attributes_in heads.now values.now) }
+    ensures segments { result ≡ path_of (attributes_in heads.now values.now) }
+    ensures short { path_length_of (attributes_in heads.now values.now) < 2 ^ 64 }
+{
+    match value_in(heads, values, AS_PATH) {
+        Some(value) => Segments::of(value),
+        None => Segments::of(&[]),
+    }
 }
 
 /// The number that four octets spell.
@@ -78,8 +104,7 @@ impl Attrs {
         ensures value { option_map (λ value. value.now) result ≡ value_of kind self.now }
         ensures form { IfSome result (λ value. IsWellFormedAs kind value.now) }
     {
-        let _legal = &self.heads;
-        Some(self.get(kind)?.value)
+        value_in(&self.heads, &self.values, kind)
     }
 
     /// ORIGIN: 0 for IGP, 1 for EGP, 2 for INCOMPLETE (RFC 4271, 5.1.1).
@@ -109,10 +134,7 @@ impl Attrs {
         ensures segments { result ≡ path_of self.now }
         ensures short { path_length_of self.now < 2 ^ 64 }
     {
-        match self.value(AS_PATH) {
-            Some(value) => Segments::of(value),
-            None => Segments::of(&[]),
-        }
+        path_in(&self.heads, &self.values)
     }
 
     /// The length of AS_PATH: each number of a sequence counts 1, and each set (RFC 4271, 9.1.2.2, a).
@@ -127,6 +149,9 @@ impl Attrs {
     pub fn path_has(&self, number: u32) -> bool
         ensures { result ≡ path_has_of number self.now }
     {
+        if self.path_marks & mark_of(number) == 0 {
+            return false;
+        }
         self.path().any(|segment| segment.has(number))
     }
 

@@ -9,8 +9,9 @@
 //! - `reading` and its folder: `field` takes a field apart, `values` judges each attribute by the
 //!   table, `gathering` keeps what counts, `two` puts AS4_PATH and AS4_AGGREGATOR in their places.
 //! - `faults` says what is wrong with a field, for the UPDATE and for the log.
-//! - `attrs` says how attributes lie in memory; `getters` and `stripping` ask and change them, by the
-//!   communities that are like `patterns`; `tags` are a route's communities, found once for many tests.
+//! - `attrs` says how attributes lie in memory, `heads` what of each is not its value; `getters` and
+//!   `stripping` ask and change them, by the communities that are like `patterns`; `tags` are a route's
+//!   communities, found once for many tests; by `path_marks` most numbers that a path lacks are known.
 //! - `segments` takes a path apart, for AS numbers in two octets and in four.
 //! - `writing` and its folder: `parts` is the list of what is to be written, by rising type, which
 //!   `size` counts and `write_into` writes; `head` spells what stands before a value, `narrow` the
@@ -23,8 +24,10 @@
 mod attrs;
 mod faults;
 mod getters;
+mod heads;
 mod laws;
 mod mode;
+mod path_marks;
 mod patterns;
 mod reading;
 mod segments;

@@ -12,7 +12,8 @@ ghost use Rattle.rs_attrs.specs.Patterns.{large_communities_in, parts_of};
 ghost use Rattle.rs_attrs.specs.Types as types;
 ghost use Rattle.rs_attrs.specs.Stripping.{is_stripped, is_stripped_large, left_of, numbers_left, stripped_of, taken_by, taken_by_owner, unstripped, unstripped_large};
 
-use crate::attrs::{Attrs, Head};
+use crate::attrs::Attrs;
+use crate::heads::Head;
 use crate::patterns::{
     CommunityPattern, LargeCommunities, LargeCommunity, LargeCommunityPattern, fits_any,
     large_fits_any,
@@ -280,18 +281,16 @@ fn push_left(
     ensures size { IfOk result (λ _. values_size heads.new.items ≡ length values.new.items) }
     ensures left { IfOk result (λ _. attributes_in heads.new.items values.new.items ≡ attributes_in heads.old.items values.old.items ++ left_of (taken_by strip.now) (attribute_by head.now value.now)) }
 {
-    if head.kind != COMMUNITIES && head.kind != LARGE_COMMUNITY {
+    let kind = head.kind();
+    if kind != COMMUNITIES && kind != LARGE_COMMUNITY {
         heads.push(*head)?;
         values.extend_from_slice(value)?;
         return Ok(());
     }
-    let size = left_size(head.kind, value, strip);
+    let size = left_size(kind, value, strip);
     if size > 0 {
-        heads.push(Head {
-            len: size as u32,
-            ..*head
-        })?;
-        push_value(values, head.kind, value, strip)?;
+        heads.push(head.with_len(size as u32))?;
+        push_value(values, kind, value, strip)?;
     }
     Ok(())
 }
@@ -316,7 +315,7 @@ pub fn stripped(alloc: Global, attrs: &Attrs, strip: &Strip<'_>) -> Result<Attrs
     let mut values = Vec::with_capacity(alloc, octets_left.saturating_sub(large_octets))?;
     let mut rest: &[u8] = &attrs.values;
     for head in &attrs.heads {
-        let (value, after) = rest.split_at(head.len as usize);
+        let (value, after) = rest.split_at(head.len() as usize);
         push_left(&mut heads, &mut values, head, value, strip)?;
         rest = after;
     }

@@ -9,7 +9,8 @@ ghost use Rattle.std.specs.Prelude.{◌≡◌, ◌+◌, ◌≤◌, length};
 ghost use Rattle.rs_octets.specs.Writes.{Writes};
 ghost use Rattle.rs_attrs.specs.Writing.{spelt, HasSpelling};
 
-use crate::attrs::{Attrs, Head};
+use crate::attrs::Attrs;
+use crate::heads::Head;
 use crate::mode::Mode;
 use crate::writing::head::{LONGEST_HEAD, attribute_size};
 use crate::writing::parts::Parts;

@@ -5,7 +5,7 @@ use Rattle.std.specs.Cmp.{first_so, second_so}
 use Rattle.std.specs.Int.{w32, to_be_bytes}
 use Rattle.std.proofs.lemmas.List.{append-nil, drop_all, take_all, take-append-le, drop-append-le}
 use Rattle.std.proofs.lemmas.Bool.{ne_eqb}
-use Rattle.rs_attrs.specs.declared.attrs.Head.{Head}
+use Rattle.rs_attrs.specs.Heads.{Head}
 use Rattle.rs_attrs.specs.declared.patterns.LargeCommunity.{LargeCommunity}
 use Rattle.rs_attrs.specs.Meaning.{Attribute}
 use Rattle.rs_attrs.specs.Paths.{quads}

@@ -9,7 +9,7 @@ use Rattle.rs_octets.specs.Writes.{Writes}
 use Rattle.rs_octets.proofs.Writing.{writes_then}
 use Rattle.rs_attrs.specs.declared.mode.Mode.{Mode}
 use Rattle.rs_attrs.specs.declared.mode.Mode.TheVariants.{Two, Four}
-use Rattle.rs_attrs.specs.declared.attrs.Head.{Head}
+use Rattle.rs_attrs.specs.Heads.{Head}
 use Rattle.rs_attrs.specs.Meaning.{Attribute, IsRising, AllAbove, is_as4}
 use Rattle.rs_attrs.specs.Held.{attribute_by, attributes_in, values_size, head_spelling}
 use Rattle.rs_attrs.specs.Writing.{attribute_octets, with_value, narrowed, as4_of, as4_attribute, path_needs_four_octets, needs_four_octets, aggregator_in, spelling_of, in_mode, IsLegal, IsLegalAttribute}

@@ -8,7 +8,7 @@ ghost use Rattle.rs_attrs.specs.Table.{size_in};
 ghost use Rattle.rs_attrs.specs.Walking.{spelling_in, segment_kinds, head_at};
 ghost use Rattle.rs_attrs.specs.Meaning;
 
-use crate::attrs::Head;
+use crate::heads::{Flags, Head};
 use crate::mode::Mode;
 use crate::reading::field::Found;
 use crate::segments::{first_segment, number_size};
@@ -106,11 +106,10 @@ fn partial_of(found: &Found<'_>) -> bool
 pub(crate) fn head_of(found: &Found<'_>, len: u32) -> Head
     ensures { result ≡ head_at (spelling_in found.now) len }
 {
-    Head {
-        kind: found.kind,
+    let flags = Flags {
         optional: is_optional(found.flags),
         transitive: is_transitive(found.flags),
         partial: partial_of(found),
-        len,
-    }
+    };
+    Head::new(found.kind, flags, len)
 }

@@ -6,7 +6,7 @@ ghost use Rattle.rs_attrs.specs.Writing.{bit, flags_with};
 ghost use Rattle.rs_attrs.specs.Held.{head_spelling};
 ghost use Rattle.rs_attrs.specs.Parts.{octets_of_length};
 
-use crate::attrs::Head;
+use crate::heads::Head;
 use rs_octets::put;
 
 /// The most octets before a value: flags, type, and two for the length.
@@ -22,10 +22,10 @@ fn flag(worth: u8, is_set: bool) -> u8
 fn flags(head: &Head) -> u8
     ensures { result ≡ flags_with head.now.optional head.now.transitive head.now.partial (nat_lt 255 head.now.len) }
 {
-    flag(0x80, head.optional)
-        + flag(0x40, head.transitive)
-        + flag(0x20, head.partial)
-        + flag(0x10, head.len > 255)
+    flag(0x80, head.optional())
+        + flag(0x40, head.transitive())
+        + flag(0x20, head.partial())
+        + flag(0x10, head.len() > 255)
 }
 
 /// Writes what stands before a value.
@@ -36,11 +36,11 @@ pub(crate) fn put_head(out: &mut [u8], at: usize, head: &Head) -> usize
     ensures octets { Writes at (head_spelling head.now) out.old out.new }
 {
     let flags = flags(head);
-    if head.len > 255 {
-        let [high, low] = (head.len as u16).to_be_bytes();
-        put(out, at, &[flags, head.kind, high, low])
+    if head.len() > 255 {
+        let [high, low] = (head.len() as u16).to_be_bytes();
+        put(out, at, &[flags, head.kind(), high, low])
     } else {
-        put(out, at, &[flags, head.kind, head.len as u8])
+        put(out, at, &[flags, head.kind(), head.len() as u8])
     }
 }
 

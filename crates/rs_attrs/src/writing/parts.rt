@@ -9,7 +9,8 @@ ghost use Rattle.rs_attrs.specs.Held.{attribute_by};
 ghost use Rattle.rs_attrs.specs.Writing.{attribute_octets, narrowed, as4_of, in_mode, IsLegal, IsLegalAttribute};
 ghost use Rattle.rs_attrs.specs.Parts.{begins_below};
 
-use crate::attrs::{Attrs, Head};
+use crate::attrs::Attrs;
+use crate::heads::{Flags, Head};
 use crate::mode::Mode;
 use crate::types::{AGGREGATOR, AS_PATH, AS4_AGGREGATOR, AS4_PATH};
 use crate::writing::head::put_head;
@@ -52,13 +53,12 @@ impl<'a> Model for Part<'a> {
 fn as4_head(kind: u8, len: u32) -> Head
     ensures { result ≡ record { kind = kind; optional = true; transitive = true; partial = false; len = len } }
 {
-    Head {
-        kind,
+    let flags = Flags {
         optional: true,
         transitive: true,
         partial: false,
-        len,
-    }
+    };
+    Head::new(kind, flags, len)
 }
 
 impl<'a> Part<'a> {
@@ -80,17 +80,17 @@ impl<'a> Part<'a> {
         requires legal { IsLegalAttribute (attribute_by head value.now) }
         ensures { result ≡ narrowed (attribute_by head value.now) }
     {
-        if head.kind == AS_PATH {
+        if head.kind() == AS_PATH {
             let len = narrow_path_size(value) as u32;
             return Part {
-                head: Head { len, ..head },
+                head: head.with_len(len),
                 form: Form::NarrowPath,
                 value,
             };
         }
-        if head.kind == AGGREGATOR {
+        if head.kind() == AGGREGATOR {
             return Part {
-                head: Head { len: 6, ..head },
+                head: head.with_len(6),
                 form: Form::NarrowAggregator,
                 value,
             };
@@ -104,11 +104,11 @@ impl<'a> Part<'a> {
         requires legal { IsLegalAttribute (attribute_by head value.now) }
         ensures { MatchOption result (as4_of (attribute_by head value.now) ≡ []) (λ p. as4_of (attribute_by head value.now) ≡ p ∷ []) }
     {
-        if head.kind == AS_PATH && needs_four(value) {
-            return Some(Part::whole(as4_head(AS4_PATH, head.len), value));
+        if head.kind() == AS_PATH && needs_four(value) {
+            return Some(Part::whole(as4_head(AS4_PATH, head.len()), value));
         }
-        if head.kind == AGGREGATOR && aggregator(value) > 65535 {
-            return Some(Part::whole(as4_head(AS4_AGGREGATOR, head.len), value));
+        if head.kind() == AGGREGATOR && aggregator(value) > 65535 {
+            return Some(Part::whole(as4_head(AS4_AGGREGATOR, head.len()), value));
         }
         None
     }
@@ -118,7 +118,7 @@ impl<'a> Part<'a> {
         ensures value { result ≡ length self.now.value }
         ensures most { result < 2 ^ 32 }
     {
-        self.head.len as usize
+        self.head.len() as usize
     }
 
     /// Writes it.
@@ -174,22 +174,22 @@ impl<'a> Left<'a> {
         ensures legal { IsLegal self.now }
     {
         match self.heads.first() {
-            Some(head) => head.kind < AS4_PATH,
+            Some(head) => head.kind() < AS4_PATH,
             None => false,
         }
     }
 
     /// Takes the first off: its head and its value.
-    fn take_first(&mut self) -> Option<(Head, &'a [u8])>
-        ensures first { MatchOption result ((self.old ≡ []) × (self.new ≡ [])) (λ h. self.old ≡ attribute_by h.0 h.1.now ∷ self.new) }
-        ensures len { IfSome result (λ h. h.0.len ≡ length h.1.now) }
+    fn take_first(&mut self) -> Option<(&'a Head, &'a [u8])>
+        ensures first { MatchOption result ((self.old ≡ []) × (self.new ≡ [])) (λ h. self.old ≡ attribute_by h.0.now h.1.now ∷ self.new) }
+        ensures len { IfSome result (λ h. h.0.now.len ≡ length h.1.now) }
         ensures legal { IsLegal self.old }
     {
         let (head, heads) = self.heads.split_first()?;
-        let (value, values) = self.values.split_at(head.len as usize);
+        let (value, values) = self.values.split_at(head.len() as usize);
         self.heads = heads;
         self.values = values;
-        Some((*head, value))
+        Some((head, value))
     }
 
     /// Takes attributes off up to the first that needs AS4_PATH or AS4_AGGREGATOR beside it.
@@ -197,7 +197,7 @@ impl<'a> Left<'a> {
         ensures { MatchOption result ((flat_map as4_of self.old ≡ []) × (self.new ≡ [])) (λ p. flat_map as4_of self.old ≡ p ∷ flat_map as4_of self.new) }
     {
         while let Some((head, value)) = self.take_first() {
-            if let Some(part) = Part::beside(head, value) {
+            if let Some(part) = Part::beside(*head, value) {
                 return Some(part);
             }
         }
@@ -249,7 +249,7 @@ impl<'a> Iterator for Parts<'a> {
             Mode::Two => {
                 if self.left.begins_below() {
                     let (head, value) = self.left.take_first()?;
-                    return Some(Part::narrowed(head, value));
+                    return Some(Part::narrowed(*head, value));
                 }
                 if let Some(part) = self.as4.take_beside() {
                     return Some(part);
@@ -257,6 +257,6 @@ impl<'a> Iterator for Parts<'a> {
             }
         }
         let (head, value) = self.left.take_first()?;
-        Some(Part::whole(head, value))
+        Some(Part::whole(*head, value))
     }
 }

@@ -3,7 +3,8 @@ use Rattle.std.specs.Hash as fed
 use Rattle.std.specs.List.{fold}
 use Rattle.std.specs.Hash.{fed_then, fed_along}
 use Rattle.std.specs.Hash.FoldHasher as folding
-use Rattle.rs_attrs.proofs.HeldComparison.{writes_of_head, held_writes}
+use Rattle.rs_attrs.specs.Heads.{writes_of_head}
+use Rattle.rs_attrs.proofs.HeldComparison.{held_writes}
 use Rattle.rs_attrs.proofs.attrs.hash_of.Goals as goal
 
 pub returns : goal.returns

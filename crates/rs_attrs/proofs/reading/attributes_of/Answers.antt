@@ -2,7 +2,7 @@ use Rattle.std.proofs.Common.{◌≡◌, ◌+◌, ◌-◌, ℕ, List, [], length
 use Rattle.std.specs.Prelude.{Vec}
 use Rattle.std.specs.Global.{Global}
 use Rattle.std.proofs.lemmas.List.{drop_more, drop_all}
-use Rattle.rs_attrs.specs.declared.attrs.Head.{Head}
+use Rattle.rs_attrs.specs.Heads.{Head}
 use Rattle.rs_attrs.specs.declared.reading.field.Found.{Found}
 use Rattle.rs_attrs.specs.Meaning.{value_meant}
 use Rattle.rs_attrs.specs.Walking.{noted, spelling_in}

@@ -1,7 +1,8 @@
 use Rattle.std.proofs.Common.{◌∷◌, [], ap, ◌∙◌}
 use Rattle.std.specs.Hash as fed
 use Rattle.std.specs.Hash.{fed_then, fed_along}
-use Rattle.rs_attrs.proofs.HeldComparison.{writes_of_head, held_writes}
+use Rattle.rs_attrs.specs.Heads.{writes_of_head}
+use Rattle.rs_attrs.proofs.HeldComparison.{held_writes}
 use Rattle.rs_attrs.proofs.attrs.AttrsHash.hash.Goals as goal
 
 pub returns : goal.returns

@@ -3,7 +3,8 @@ use Rattle.std.specs.Bool.{Decides}
 use Rattle.std.specs.Cmp.Lexicographic.{pointwise}
 use Rattle.std.proofs.lemmas.Bool.Decides.{Decides-at, same_from_decides}
 use Rattle.rs_attrs.specs.ComparisonLaws.{attributes_decides}
-use Rattle.rs_attrs.proofs.HeldComparison.{same_head, held_decides}
+use Rattle.rs_attrs.specs.Heads.{same_head}
+use Rattle.rs_attrs.proofs.HeldComparison.{held_decides}
 use Rattle.rs_attrs.proofs.attrs.AttrsPartialEq.eq.Goals as goal
 
 pub returns-then-self-other-clause-value : goal.returns-then-self-other-clause-value

@@ -1,6 +1,6 @@
 use Rattle.std.proofs.Common.{◌≡◌, ℕ, false, List, [], ◌∷◌, Some, None, refl, ap, subst, ◌∙◌}
 use Rattle.std.specs.Prelude.{nat_lt, slice_get}
-use Rattle.rs_attrs.specs.declared.attrs.Head.{Head}
+use Rattle.rs_attrs.specs.Heads.{Head}
 use Rattle.rs_attrs.specs.Held.{attributes_in}
 use Rattle.rs_attrs.specs.Parts.{begins_below}
 use Rattle.rs_attrs.specs.Types as types
@@ -17,7 +17,7 @@ none [] values e = refl
 none (g ∷ heads) values e = cc
 
 pub returns-in-Some-clause-value : goal.returns-in-Some-clause-value
-returns-in-Some-clause-value c = first c.self.inside.heads.now c.self.inside.values.now c.in-Some.head.now c.in-Some.ensures.value ∙ ap begins_below c.self.view_is
+returns-in-Some-clause-value c = ap (λ kind. nat_lt kind types.as4_path) c.kind.ensures ∙ first c.self.inside.heads.now c.self.inside.values.now c.in-Some.head.now c.in-Some.ensures.value ∙ ap begins_below c.self.view_is
 
 pub returns-in-Some-clause-legal : goal.returns-in-Some-clause-legal
 returns-in-Some-clause-legal c = subst IsLegal c.self.view_is c.self.invariant.1

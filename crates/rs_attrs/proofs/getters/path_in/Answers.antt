@@ -1,7 +1,7 @@
 use Rattle.std.proofs.Common.{refl, ap, arith, unwrap_or, option_map, []}
 use Rattle.rs_attrs.specs.Paths.{path_length}
 use Rattle.rs_attrs.specs.Writing.{path_in}
-use Rattle.rs_attrs.proofs.attrs.Attrs.path.Goals as goal
+use Rattle.rs_attrs.proofs.getters.path_in.Goals as goal
 
 pub of-requires : goal.of-requires
 of-requires c = c.in-Some.ensures.form.form _ refl refl

@@ -1,0 +1,7 @@
+use Rattle.std.proofs.Common.{ℕ}
+use Rattle.rs_attrs.specs.PathMarks.{IsPathMarked, KeepsMarks}
+use Rattle.rs_attrs.proofs.path_marks.marks_of.Given as goal
+
+-- what marks what is left, too, marks all
+abbrev pub invariant-loop-segment : goal.invariant-loop-segment
+invariant-loop-segment l = (m : ℕ) → KeepsMarks l.marks m → IsPathMarked m l.segment-iterator → IsPathMarked m l.fn.path
