@@ -58,3 +58,7 @@ len-from_list (p ∷ ps) h =
 pub from_on_ok : {A E : Type 0} (r : Result A E) (P : Type 0) → OnOk r P → is_ok r ≡ true → P
 from_on_ok (Ok x) P h ok = h
 from_on_ok (Err e) P h ok = absurd (true≢false (sym ok))
+
+pub on_ok : {A E : Type 0} (r : Result A E) (P : Type 0) → (is_ok r ≡ true → P) → OnOk r P
+on_ok (Ok x) P h = h refl
+on_ok (Err e) P h = tt
