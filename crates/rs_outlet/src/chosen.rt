@@ -200,8 +200,9 @@ fn chosen_before(
     }
 }
 
-/// Whose route is the best, found once for all clients that are decided alike: those without export rules. It is kept where the
-/// client has no route for the prefix itself, with the choice of the client whose route it is.
+/// Whose route is the best, found once for all clients that are decided alike: those whose export lists use the same rules,
+/// which don't name the receiver, or have none. It is kept where the client has no route for the prefix itself, with the choice
+/// of the client whose route it is.
 pub(crate) fn choose_once(
     sources: &Sources<'_>,
     number: u32,

@@ -11,7 +11,7 @@ mod texts;
 mod top;
 mod values;
 
-ghost use Rattle.std.specs.Prelude.{◌≡◌, ◌<◌, length, IfSome};
+ghost use Rattle.std.specs.Prelude.{◌≡◌, ◌<◌, false, length, IfSome, IsTrue};
 ghost use Rattle.rs_policy.specs.Rules.{client_named};
 ghost use Rattle.toml.specs.Data.{table};
 ghost use Rattle.toml.specs.View.{view};
@@ -20,7 +20,7 @@ ghost use Rattle.rs_policy.specs.Values.{answer, Answers};
 ghost use Rattle.rs_policy.specs.Configuration.{client_of, policy_of, shared_at, stated_of};
 ghost use Rattle.rs_policy.specs.Noted.{IsRead};
 ghost use Rattle.rs_policy.specs.Sound.{IsSound};
-ghost use Rattle.rs_policy.specs.Documents.{document_checks, configuration_of, config_of};
+ghost use Rattle.rs_policy.specs.Documents.{document_checks, configuration_of, config_of, rules_name_peer};
 
 use crate::config::clients::{Client, read_clients};
 use crate::config::named_lists::{NamedList, read_named_lists};
@@ -29,6 +29,7 @@ use crate::config::rule_tables::place_of;
 use crate::config::shared_rules::{SharedRules, read_shared_rules};
 use crate::config::top::{Top, client_tables, list_tables, refuse_other_keys, shared_tables};
 use crate::faults::ConfigFault;
+use crate::rules::alike::are_same_uses;
 use crate::rules::{Disposition, Rules};
 use std::alloc::Global;
 use std::fmt;
@@ -228,6 +229,17 @@ impl Config {
     {
         let policy = &self.policies[c];
         Rules::of(&policy.export, &self.shared)
+    }
+
+    /// Whether the export lists of two clients have the same rules, of which no test names the receiver.
+    pub(crate) fn has_same_exports(&self, one: usize, other: usize) -> bool
+        requires one { one < length self.now.clients }
+        requires other { other < length self.now.clients }
+        ensures same { IsTrue result → (policy_of self.now one).export ≡ (policy_of self.now other).export }
+        ensures no_peer { IsTrue result → rules_name_peer (policy_of self.now one).export ≡ false }
+    {
+        let (one, other) = (&self.policies[one], &self.policies[other]);
+        are_same_uses(&self.shared, &one.export, &other.export)
     }
 
     /// What it keeps, beside what `clients` says: what an import list makes of a route is the same, whoever

@@ -144,7 +144,7 @@ large_pattern_alike t m n e =
     let k : (is_peer t.first ≡ false) × (is_peer t.second ≡ false) = or_parts (is_peer t.first) (is_peer t.second) h.1 in
     λ i. record { global = number_alike t.global m n h.0 i; first = number_alike t.first m n k.0 i; second = number_alike t.second m n k.1 i }
 
-abbrev sent_to : AnnouncedRoute → ℕ → AnnouncedRoute
+abbrev pub sent_to : AnnouncedRoute → ℕ → AnnouncedRoute
 sent_to r n = record r { to_as = n }
 
 abbrev IsAskedAlike : {A : Type 0} → (A → AnnouncedRoute → Bool) → AnnouncedRoute → ℕ → Option A → Type 0
@@ -179,7 +179,7 @@ matches_alike lists rule r n e =
     ap (λ b. matches_by b (holds (λ t. has_large_community t r) rule.tests.large_community) lists rule r) (community_alike rule.tests.community r n h.0)
     ∙ ap (λ c. matches_by (holds (λ t. has_community t (sent_to r n)) rule.tests.community) c lists rule r) (large_community_alike rule.tests.large_community r n h.1)
 
-found_alike : (lists : List NamedList) (rules : List Rule) (r : AnnouncedRoute) (n : ℕ) → rules_name_peer rules ≡ false
+pub found_alike : (lists : List NamedList) (rules : List Rule) (r : AnnouncedRoute) (n : ℕ) → rules_name_peer rules ≡ false
     → find (λ rule. matches lists rule r) rules ≡ find (λ rule. matches lists rule (sent_to r n)) rules
 found_alike lists [] r n e = refl
 found_alike lists (rule ∷ rules) r n e =

@@ -1,8 +1,10 @@
--- Where neither list has a rule, what becomes of a route is the default's.
-use Rattle.std.proofs.Common.{◌≡◌, ◌∙◌, ℕ, ◌<◌, Some, List, [], length, find, sym, ap, refl}
+-- Where neither list has a rule, what becomes of a route is the default's; and the same becomes of it for two whose lists are alike.
+use Rattle.std.proofs.Common.{◌≡◌, ◌∙◌, ℕ, ◌<◌, false, Some, List, [], length, find, sym, ap, refl}
 use Rattle.rs_octets.specs.Prefixes.{Prefix}
 use Rattle.rs_attrs.specs.Meaning.{Attribute}
-use Rattle.rs_policy.specs.Configuration.{NamedList, Configuration, policy_of}
+use Rattle.rs_policy.specs.Configuration.{NamedList, Configuration, client_of, policy_of}
+use Rattle.rs_policy.specs.Documents.{rules_name_peer}
+use Rattle.rs_policy.proofs.Accepted.Imports.{found_alike, sent_to}
 use Rattle.rs_policy.specs.Verdicts.{AnnouncedRoute, AsksNoReceiver, announced_route, joined, matches, outcome, passing_by, passing_by_default, verdict}
 use Rattle.rs_policy.specs.Noted.{import_outcome, plainly}
 use Rattle.rs_policy.specs.declared.rules.Disposition.{Disposition}
@@ -31,11 +33,12 @@ plainly_through s from to p m is no_export =
     by_default s.top.default
     ∙ λ i. joined (is i) (sym (nothing_matches s.top.default s.lists (policy_of s to).export (announced_route s from to p m) no_export) i)
 
--- where neither receiver has export rules, the same becomes of a route for both
-pub without_exports : (s : Configuration) (one other : ℕ) → AsksNoReceiver s → (policy_of s one).export ≡ [] → (policy_of s other).export ≡ []
+-- where both receivers have the same export rules, which don't ask who the receiver is, the same becomes of a route for both
+pub with_same_exports : (s : Configuration) (one other : ℕ) → AsksNoReceiver s → (policy_of s one).export ≡ (policy_of s other).export → rules_name_peer (policy_of s one).export ≡ false
     → (from : ℕ) (p : Prefix) (m : List Attribute) → from < length s.clients → verdict s from one p m ≡ verdict s from other p m
-unfolding verdict
-without_exports s one other asks none nor from p m known = λ i.
-    joined (asks from one other p m known i)
-    ((nothing_matches s.top.default s.lists (policy_of s one).export (announced_route s from one p m) none
-    ∙ sym (nothing_matches s.top.default s.lists (policy_of s other).export (announced_route s from other p m) nor)) i)
+unfolding verdict outcome
+with_same_exports s one other asks same none from p m known =
+    let r : AnnouncedRoute = announced_route s from one p m in
+    let n : ℕ = (client_of s other).client_as in
+    λ i. joined (asks from one other p m known i)
+    (passing_by s.top.default ((found_alike s.lists (policy_of s one).export r n none ∙ ap (λ rules. find (λ rule. matches s.lists rule (sent_to r n)) rules) same) i))

@@ -122,7 +122,7 @@ fn shared_of(shared: &[SharedRules], receiver: bool, name: &str) -> Option<usize
 }
 
 /// Whether a part of a test of these rules is `peer`.
-fn rules_name_peer(rules: &[Rule]) -> bool
+pub(crate) fn rules_name_peer(rules: &[Rule]) -> bool
     ensures { result ≡ rules_name_peer rules.now }
 {
     for rule in rules {

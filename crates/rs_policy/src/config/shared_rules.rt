@@ -5,12 +5,13 @@ ghost use Rattle.std.specs.List.{list_any};
 ghost use Rattle.toml.specs.View.{view};
 ghost use Rattle.rs_policy.specs.Seen.{data_of};
 ghost use Rattle.rs_policy.specs.Values.{answer, Answers, AnswersItems};
-ghost use Rattle.rs_policy.specs.Documents.{all_shared_checks, all_shared_from, shared_checks, shared_from};
+ghost use Rattle.rs_policy.specs.Documents.{all_shared_checks, all_shared_from, rules_name_peer, shared_checks, shared_from};
 
 use crate::config::arrays::{needed_tables, refuse_others};
 use crate::config::clients::{Client, name_in};
 use crate::config::named_lists::NamedList;
 use crate::config::policies::rules_of;
+use crate::config::rule_tables::rules_name_peer;
 use crate::config::top::TOP;
 use crate::faults::{ConfigFault, Key, List, Place, Table};
 use crate::keys::SHARED_KEYS;
@@ -24,6 +25,9 @@ use toml::value::Value;
 pub(crate) struct SharedRules {
     pub(crate) name: String,
     pub(crate) rules: Vec<Rule>,
+    /// A part of a test of them is `peer`.
+    pub(crate) name_peer: bool,
+    ghost peer: { name_peer ≡ rules_name_peer rules.items },
 }
 
 impl Model for SharedRules {
@@ -70,9 +74,11 @@ impl SharedRules {
             return Err(ConfigFault::TwiceRules(number));
         }
         let rules = rules_of(alloc, tables, number, List::Shared, clients, lists)?;
+        let name_peer = rules_name_peer(&rules);
         Ok(SharedRules {
             name: String::from_str(alloc, name)?,
             rules,
+            name_peer,
         })
     }
 }

@@ -1,10 +1,12 @@
 //! Clients to which the same becomes of each route, and routes of which the same becomes.
 
-ghost use Rattle.std.specs.Prelude.{◌≡◌, ◌<◌, ℕ, List, length, IsTrue};
+ghost use Rattle.std.specs.Prelude.{◌≡◌, ◌<◌, ℕ, List, false, length, IsTrue};
 ghost use Rattle.std.specs.List.{list_any};
 ghost use Rattle.rs_policy.specs.Alike.{PassesPlainly, PrefixesAreAlike};
 ghost use Rattle.rs_policy.specs.Asking.{asks_prefix};
-ghost use Rattle.rs_policy.specs.Configuration.{rules_in};
+ghost use Rattle.rs_policy.specs.Configuration.{rules_in, written_out};
+ghost use Rattle.rs_policy.specs.Documents.{rules_name_peer};
+ghost use Rattle.rs_policy.specs.declared.rules.Item.TheVariants as Item;
 ghost use Rattle.rs_octets.specs.Prefixes.{Prefix};
 ghost use Rattle.rs_attrs.specs.Meaning.{Attribute};
 ghost use Rattle.rs_policy.specs.Verdicts.{verdict};
@@ -13,18 +15,52 @@ use crate::config::Config;
 use crate::config::shared_rules::SharedRules;
 use crate::rules::{Disposition, Item, Rule};
 
-/// Whether the rules judge each route alike on its way to both clients: neither has export rules. Import lists ask for no
-/// receiver. It takes no memory.
+/// Whether a part of a test of the rules of a place is `peer`. There are none where there is no such place.
+fn names_peer(shared: &[SharedRules], place: usize) -> bool
+    ensures { result ≡ rules_name_peer (rules_in shared.now (Item.Use place)) }
+{
+    match shared.get(place) {
+        None => false,
+        Some(used) => used.name_peer,
+    }
+}
+
+/// Whether what stands at places of two lists is the use of the same rules, of which no test names the receiver.
+fn is_same_use(shared: &[SharedRules], one: &Item, other: &Item) -> bool
+    ensures same { IsTrue result → rules_in shared.now one.now ≡ rules_in shared.now other.now }
+    ensures no_peer { IsTrue result → rules_name_peer (rules_in shared.now one.now) ≡ false }
+{
+    match (one, other) {
+        (Item::Use(one), Item::Use(other)) => one == other && !names_peer(shared, *one),
+        _ => false,
+    }
+}
+
+/// Whether two lists use the same rules one after the other, and no test of these names the receiver.
+pub(crate) fn are_same_uses(shared: &[SharedRules], one: &[Item], other: &[Item]) -> bool
+    ensures same { IsTrue result → written_out shared.now one.now ≡ written_out shared.now other.now }
+    ensures no_peer { IsTrue result → rules_name_peer (written_out shared.now one.now) ≡ false }
+{
+    if one.len() != other.len() {
+        return false;
+    }
+    for place in 0..one.len() {
+        if !is_same_use(shared, &one[place], &other[place]) {
+            return false;
+        }
+    }
+    true
+}
+
+/// Whether the rules judge each route alike on its way to both clients: their export lists use the same rules, which don't name
+/// the receiver, or there are none. Import lists ask for no receiver. It takes no memory.
 pub fn judges_alike(config: &Config, one: usize, other: usize) -> bool
     requires one { one < length config.now.clients }
     requires other { other < length config.now.clients }
     ensures { IsTrue result → (from : ℕ) (p : Prefix) (m : List Attribute) → from < length config.now.clients → verdict config.now from one p m ≡ verdict config.now from other p m }
 {
     config.is_read();
-    if !config.export(one).is_empty() {
-        return false;
-    }
-    config.export(other).is_empty()
+    config.has_same_exports(one, other)
 }
 
 /// Whether a rule asks for the prefix of a route.

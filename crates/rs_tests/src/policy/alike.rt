@@ -39,3 +39,49 @@ fn routes_are_judged_alike_where_no_rule_asks_for_the_prefix(rt: HostRuntime) {
         let_go(config);
     }
 }
+
+/// Rules that name the receiver, beside those above.
+const NAMING: &str =
+    "[[rules]]\nname = \"p\"\nrules = [{ community = \"0:peer\", action = \"drop\" }]\n";
+
+/// The export lists of two clients, and whether the same becomes of each route on its way to both, as far as is told.
+static PAIRS: [(&str, &str, bool); 7] = [
+    ("", "", true),
+    ("{ use = \"s\" }", "{ use = \"s\" }", true),
+    (
+        "{ use = \"s\" }, { use = \"r\" }",
+        "{ use = \"s\" }, { use = \"r\" }",
+        true,
+    ),
+    (
+        "{ use = \"s\" }, { use = \"r\" }",
+        "{ use = \"r\" }, { use = \"s\" }",
+        false,
+    ),
+    ("{ use = \"s\" }, { use = \"r\" }", "{ use = \"s\" }", false),
+    ("{ use = \"s\" }", "", false),
+    ("{ use = \"p\" }", "{ use = \"p\" }", false),
+];
+
+#[test]
+fn clients_that_use_the_same_rules_are_judged_alike(rt: HostRuntime) {
+    for (one, other, want) in &PAIRS {
+        let parts = [
+            TOP,
+            CLIENT,
+            "export = [",
+            one,
+            "]\n",
+            OTHER,
+            "export = [",
+            other,
+            "]\n",
+            NAMED,
+            NAMING,
+        ];
+        let config = read_parts(&rt, rt.alloc(), &parts);
+        assert!(&rt; config.clients() > 1);
+        is_of(&rt, judges_alike(&config, 0, 1), *want, &(*one, *other));
+        let_go(config);
+    }
+}
