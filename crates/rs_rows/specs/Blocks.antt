@@ -12,12 +12,14 @@ free_rows = replicate 16 None
 
 abbrev pub rows_in : Part → List (Option Row)
 rows_in part.Free = free_rows
-rows_in (part.Own draft) = draft.cells.items
+rows_in (part.Own block) = block.rows.items
+rows_in (part.Over draft) = draft.cells.items
 rows_in (part.Shared block) = (arc_value block).rows.items
 
 abbrev pub is_own : Part → Bool
 is_own part.Free = false
-is_own (part.Own draft) = true
+is_own (part.Own block) = true
+is_own (part.Over draft) = true
 is_own (part.Shared block) = false
 
 -- the rows of all blocks, one after the other

@@ -1,15 +1,20 @@
-//! Sixteen rows that lie together, as clients share them.
+//! Sixteen rows that lie together, of one client or shared.
 
-ghost use Rattle.std.specs.Prelude.{◌≡◌, is_some, option_map, vec_len};
+ghost use Rattle.std.specs.Prelude.{◌≡◌, ◌<◌, None, Some, is_some, option_map, IfOk, IsTrue, replicate, slice_set, vec_len};
+ghost use Rattle.std.specs.Arc.{arc_value};
 ghost use Rattle.rs_rows.specs.Rows.{row_at, shown};
 ghost use Rattle.rs_rows.specs.Places.{lent_row};
 
 use crate::place::{Lent, Place};
+use rs_attrs::Attrs;
+use rs_octets::Prefix;
+use std::alloc::{AllocError, Global};
+use std::sync::Arc;
 
 /// How many rows lie in a block. Of shorter ones more are alike, longer ones take less beside their rows.
 pub(crate) const ROWS: usize = 16;
 
-/// The rows of neighbouring numbers. Nothing changes them: who is due something else has a block of its own.
+/// The rows of neighbouring numbers. Once it is shared nothing changes them.
 #[derive(Drop)]
 pub struct Block {
     pub(crate) rows: Vec<Place>,
@@ -17,6 +22,28 @@ pub struct Block {
 }
 
 impl Block {
+    /// A block whose rows are free.
+    pub(crate) fn free(alloc: Global) -> Result<Block, AllocError>
+        ensures { IfOk result (λ block. block.rows.items ≡ replicate 16 None) }
+    {
+        let mut rows = Vec::with_capacity(alloc, ROWS)?;
+        for _ in 0..ROWS {
+            rows.push_reserved(Place::free());
+        }
+        Ok(Block { rows })
+    }
+
+    /// The same rows once more.
+    pub(crate) fn copy(&self, alloc: Global) -> Result<Block, AllocError>
+        ensures { IfOk result (λ block. block.rows.items ≡ self.now.rows.items) }
+    {
+        let mut rows = Vec::with_capacity(alloc, ROWS)?;
+        for place in &self.rows {
+            rows.push_reserved(place.copy()?);
+        }
+        Ok(Block { rows })
+    }
+
     /// The row at an index, where it has a route.
     pub(crate) fn at(&self, index: usize) -> Option<Lent<'_>>
         ensures { option_map lent_row result ≡ row_at self.now.rows.items index }
@@ -32,5 +59,59 @@ impl Block {
         ensures { result ≡ is_some (shown (row_at self.now.rows.items index)) }
     {
         self.at(index as usize).is_some()
+    }
+
+    /// Takes the route out of the row at an index.
+    pub(crate) fn take(&mut self, index: usize) -> Option<Arc<Attrs>>
+        requires { index < 16 }
+        ensures rows { self.new.rows.items ≡ slice_set self.old.rows.items index None }
+        ensures was { option_map arc_value result ≡ shown (row_at self.old.rows.items index) }
+    {
+        self.rows[index].take()
+    }
+
+    /// Puts a route into the row at an index.
+    pub(crate) fn put(&mut self, index: usize, prefix: Prefix, attrs: Arc<Attrs>)
+        requires { index < 16 }
+        ensures { self.new.rows.items ≡ slice_set self.old.rows.items index (Some (record { prefix = prefix; attributes = arc_value attrs })) }
+    {
+        self.rows[index] = Place::of(prefix, attrs);
+    }
+
+    /// Whether all rows are free.
+    pub(crate) fn is_free(&self) -> bool
+        ensures { IsTrue result → self.now.rows.items ≡ replicate 16 None }
+    {
+        for place in &self.rows {
+            if !place.is_free() {
+                return false;
+            }
+        }
+        true
+    }
+
+    /// Whether another block may have the same rows, as far as is seen without a look at attributes.
+    fn may_be_same(&self, other: &Block) -> bool {
+        for index in 0..ROWS {
+            if !self.rows[index].may_be_same(&other.rows[index]) {
+                return false;
+            }
+        }
+        true
+    }
+
+    /// Whether another block has the same rows.
+    pub(crate) fn is_same(&self, other: &Block) -> bool
+        ensures { IsTrue result → other.now.rows.items ≡ self.now.rows.items }
+    {
+        if !self.may_be_same(other) {
+            return false;
+        }
+        for index in 0..ROWS {
+            if !self.rows[index].is_same(&other.rows[index]) {
+                return false;
+            }
+        }
+        true
     }
 }

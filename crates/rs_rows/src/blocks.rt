@@ -112,11 +112,11 @@ impl Blocks {
         ensures kept { (n : ℕ) → IsPrepared self.old.prepared n → IsPrepared self.new.prepared n }
     {
         let place = number as usize / ROWS;
-        let Some(draft) = self.parts[place].copy(self.alloc, most)? else {
+        let Some(part) = self.parts[place].copy(self.alloc, most)? else {
             return Ok(());
         };
         self.prepared.push(place as u32)?;
-        self.parts[place] = Part::Own(draft);
+        self.parts[place] = part;
         Ok(())
     }
 

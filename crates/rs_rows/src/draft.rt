@@ -1,4 +1,4 @@
-//! A block that one client writes.
+//! A block of which one client writes most rows.
 
 ghost use Rattle.std.specs.Prelude.{◌≡◌, ◌<◌, None, Some, option_map, IfOk, IsTrue, replicate, slice_set, vec_len};
 ghost use Rattle.std.specs.Arc.{arc_value};
@@ -15,7 +15,7 @@ use rs_octets::Prefix;
 use std::alloc::{AllocError, Global};
 use std::sync::Arc;
 
-/// The rows of neighbouring numbers, as they can be written.
+/// The rows of a block as they can be written. What is taken out of one that wasn't written yet is a share of the block.
 #[derive(Drop)]
 pub(crate) struct Draft {
     pub(crate) cells: Vec<Cell>,
@@ -23,28 +23,6 @@ pub(crate) struct Draft {
 }
 
 impl Draft {
-    /// A block whose rows are free.
-    pub(crate) fn free(alloc: Global) -> Result<Draft, AllocError>
-        ensures { IfOk result (λ draft. draft.cells.items ≡ replicate 16 None) }
-    {
-        let mut cells = Vec::with_capacity(alloc, ROWS)?;
-        for _ in 0..ROWS {
-            cells.push_reserved(Cell::free());
-        }
-        Ok(Draft { cells })
-    }
-
-    /// The rows of a block once more, each as an owner more of its attributes.
-    pub(crate) fn copy(alloc: Global, block: &Block) -> Result<Draft, AllocError>
-        ensures { IfOk result (λ draft. draft.cells.items ≡ block.now.rows.items) }
-    {
-        let mut cells = Vec::with_capacity(alloc, ROWS)?;
-        for place in &block.rows {
-            cells.push_reserved(Cell::here(place.copy()?));
-        }
-        Ok(Draft { cells })
-    }
-
     /// The rows of a block once more, each as a share of the block.
     pub(crate) fn over(alloc: Global, block: &Arc<Block>) -> Result<Draft, AllocError>
         ensures { IfOk result (λ draft. draft.cells.items ≡ (arc_value block.now).rows.items) }
@@ -57,6 +35,7 @@ impl Draft {
     }
 
     /// The row at an index, where it has a route.
+    #[inline(never)]
     pub(crate) fn at(&self, index: usize) -> Option<Lent<'_>>
         ensures { option_map lent_row result ≡ row_at self.now.cells.items index }
     {
@@ -67,6 +46,7 @@ impl Draft {
     }
 
     /// Takes the route out of the row at an index.
+    #[inline(never)]
     pub(crate) fn take(&mut self, index: usize) -> Taken
         requires { index < 16 }
         ensures rows { self.new.cells.items ≡ slice_set self.old.cells.items index None }
@@ -76,6 +56,7 @@ impl Draft {
     }
 
     /// Puts a route into the row at an index.
+    #[inline(never)]
     pub(crate) fn put(&mut self, index: usize, prefix: Prefix, attrs: Arc<Attrs>)
         requires { index < 16 }
         ensures { self.new.cells.items ≡ slice_set self.old.cells.items index (Some (record { prefix = prefix; attributes = arc_value attrs })) }

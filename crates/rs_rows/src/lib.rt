@@ -4,8 +4,9 @@
 //! blocks. Where two clients have a block of the same rows, one copy serves both: most clients of a route server are due
 //! the same.
 //!
-//! - `place` is a row as it lies in memory, `block` so many of them, which clients share. `draft` is a block that is
-//!   written, of `cell`s: rows of its own, or as they lie in the block that was. `part` is a block of one client or of several.
+//! - `place` is a row as it lies in memory, `block` so many of them, of one client or shared. `draft` is a block of which one
+//!   client writes most rows, in `cell`s: rows of its own, or as they lie in the block that was. `part` is a block as a client
+//!   has it.
 //! - `taken` is what was taken out of a row.
 //! - `blocks` has the calls: rows are read by number; before one is written its block is prepared, which takes memory;
 //!   and blocks that were prepared are shared with others, where those have the same rows.

@@ -22,7 +22,9 @@ pub(crate) enum Part {
     /// All are free.
     Free,
     /// They can be written.
-    Own(Draft),
+    Own(Block),
+    /// They can be written, and most are to be.
+    Over(Draft),
     /// Other clients may have them too.
     Shared(Arc<Block>),
 }
@@ -30,19 +32,29 @@ pub(crate) enum Part {
 impl Part {
     ghost use Rattle.rs_rows.specs.Blocks.{is_own, rows_in};
 
-    /// What was written, as it can be shared. Where memory for that is refused, it is one client's still.
-    fn of(alloc: Global, draft: Draft) -> Part
+    /// A block that can be shared. Where memory for that is refused, it is one client's still.
+    fn of(alloc: Global, block: Block) -> Part
+        ensures { rows_in result ≡ block.rows.items }
+    {
+        if block.is_free() {
+            return Part::Free;
+        }
+        match Arc::new(alloc, block) {
+            Ok(shared) => Part::Shared(shared),
+            Err(refused) => Part::Own(refused.value),
+        }
+    }
+
+    /// The same of a block of which most rows were to be written.
+    fn of_draft(alloc: Global, draft: Draft) -> Part
         ensures { rows_in result ≡ draft.cells.items }
     {
         if draft.is_free() {
             return Part::Free;
         }
         match draft.close(alloc) {
-            Ok(block) => match Arc::new(alloc, block) {
-                Ok(shared) => Part::Shared(shared),
-                Err(_) => Part::Own(draft),
-            },
-            Err(_) => Part::Own(draft),
+            Ok(block) => Part::of(alloc, block),
+            Err(_) => Part::Over(draft),
         }
     }
 
@@ -52,22 +64,24 @@ impl Part {
     {
         match self {
             Part::Free => None,
-            Part::Own(draft) => draft.at(index),
+            Part::Own(block) => block.at(index),
+            Part::Over(draft) => draft.at(index),
             Part::Shared(block) => block.at(index),
         }
     }
 
-    /// A block of the same rows that can be written; none where they can be written here. Where `most` rows of it are to be
-    /// written, what is taken out of them is taken as shares of the block that was.
-    pub(crate) fn copy(&self, alloc: Global, most: bool) -> Result<Option<Draft>, AllocError>
-        ensures own { IfOk result (λ made. made ≡ None → is_own self.now ≡ true) }
-        ensures rows { IfOk result (λ made. IfSome made (λ draft. draft.cells.items ≡ rows_in self.now)) }
+    /// The same rows, as they can be written; none where they can be written here. Where `most` of them are to be, what is
+    /// taken out of them is taken as shares of the block that was.
+    pub(crate) fn copy(&self, alloc: Global, most: bool) -> Result<Option<Part>, AllocError>
+        ensures here { IfOk result (λ made. made ≡ None → is_own self.now ≡ true) }
+        ensures own { IfOk result (λ made. IfSome made (λ part. is_own part ≡ true)) }
+        ensures rows { IfOk result (λ made. IfSome made (λ part. rows_in part ≡ rows_in self.now)) }
     {
         match self {
-            Part::Free => Ok(Some(Draft::free(alloc)?)),
-            Part::Own(_) => Ok(None),
-            Part::Shared(block) if most => Ok(Some(Draft::over(alloc, block)?)),
-            Part::Shared(block) => Ok(Some(Draft::copy(alloc, block)?)),
+            Part::Free => Ok(Some(Part::Own(Block::free(alloc)?))),
+            Part::Own(_) | Part::Over(_) => Ok(None),
+            Part::Shared(block) if most => Ok(Some(Part::Over(Draft::over(alloc, block)?))),
+            Part::Shared(block) => Ok(Some(Part::Own(block.copy(alloc)?))),
         }
     }
 
@@ -80,7 +94,11 @@ impl Part {
         ensures was { taken_of result ≡ shown (row_at (rows_in self.old) index) }
     {
         match self {
-            Part::Own(draft) => draft.take(index),
+            Part::Own(block) => match block.take(index) {
+                None => Taken::Nothing,
+                Some(attrs) => Taken::One(attrs),
+            },
+            Part::Over(draft) => draft.take(index),
             Part::Free | Part::Shared(_) => unreachable!(),
         }
     }
@@ -93,7 +111,8 @@ impl Part {
         ensures own { is_own self.new ≡ true }
     {
         match self {
-            Part::Own(draft) => draft.put(index, prefix, attrs),
+            Part::Own(block) => block.put(index, prefix, attrs),
+            Part::Over(draft) => draft.put(index, prefix, attrs),
             Part::Free | Part::Shared(_) => unreachable!(),
         }
     }
@@ -104,6 +123,7 @@ impl Part {
     {
         match (self, other) {
             (Part::Own(own), Part::Shared(shared)) if own.is_same(shared) => shared.clone().ok(),
+            (Part::Over(own), Part::Shared(shared)) if own.is_same(shared) => shared.clone().ok(),
             _ => None,
         }
     }
@@ -122,7 +142,8 @@ impl Part {
         ensures { rows_in self.new ≡ rows_in self.old }
     {
         match mem::replace(self, Part::Free) {
-            Part::Own(draft) => *self = Part::of(alloc, draft),
+            Part::Own(block) => *self = Part::of(alloc, block),
+            Part::Over(draft) => *self = Part::of_draft(alloc, draft),
             part => *self = part,
         }
     }
