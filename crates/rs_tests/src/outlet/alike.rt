@@ -170,18 +170,17 @@ fn share_rows(first: &mut Outlet, alike: &mut Outlet) {
     alike.settle();
 }
 
-/// The sender takes back all prefixes of so many sets, and the outlet decides that.
-fn take_back(rt: &impl Abort, exchange: &mut Exchange, outlets: &mut [Outlet], sets: u8) {
-    let count = u32::from(sets) * 2;
-    for outlet in outlets.iter_mut() {
-        exchange.touch(rt, outlet, 0..count, 1);
-    }
-    assert!(rt; SENDER < exchange.tables.clients());
+/// Another owner of what the client is due for the first prefix.
+fn owner(rt: &impl Abort, exchange: &Exchange, outlet: &Outlet) -> Arc<Attrs> {
+    let attrs = outlet.route(&prefix(rt, 0), &exchange.tables);
+    attrs.expect(rt, "a route").clone().expect(rt, "an owner")
+}
+
+/// The sender takes back so many prefixes.
+fn take_back(rt: &impl Abort, exchange: &mut Exchange, count: u32) {
     for n in 0..count {
+        assert!(rt; SENDER < exchange.tables.clients());
         exchange.tables.withdraw(SENDER, prefix(rt, n));
-    }
-    for outlet in outlets.iter_mut() {
-        exchange.decides(rt, outlet, some(count as usize));
     }
 }
 
@@ -192,25 +191,25 @@ fn what_two_were_told_is_there_once(rt: HostRuntime) {
     let mut exchange = Exchange::of(&rt, rt.alloc(), STRIPPED);
     announce(&rt, &mut exchange, SETS, 2, false);
     let mut choices = Choices::new(rt.alloc());
-    let mut outlets = [
-        turned(&rt, &exchange, CLIENT, &mut choices),
-        turned(&rt, &exchange, CLIENT + 1, &mut choices),
-    ];
+    let mut first = turned(&rt, &exchange, CLIENT, &mut choices);
+    let mut alike = turned(&rt, &exchange, CLIENT + 1, &mut choices);
     drop(choices);
-    let [first, alike] = &mut outlets;
-    share_rows(first, alike);
-    let told = first.route(&prefix(&rt, 0), &exchange.tables);
-    let told = told.expect(&rt, "a route").clone().expect(&rt, "an owner");
-    drain(&rt, &exchange, first);
-    drain(&rt, &exchange, alike);
-    take_back(&rt, &mut exchange, &mut outlets, SETS);
-    let [first, alike] = &mut outlets;
-    share_rows(first, alike);
+    share_rows(&mut first, &mut alike);
+    let told = owner(&rt, &exchange, &first);
+    drain(&rt, &exchange, &mut first);
+    drain(&rt, &exchange, &mut alike);
+    let count = u32::from(SETS) * 2;
+    exchange.touch(&rt, &mut first, 0..count, 1);
+    exchange.touch(&rt, &mut alike, 0..count, 1);
+    take_back(&rt, &mut exchange, count);
+    exchange.decides(&rt, &mut first, some(count as usize));
+    exchange.decides(&rt, &mut alike, some(count as usize));
+    share_rows(&mut first, &mut alike);
     equals(&rt, Arc::strong_count(&told), 3);
-    drain(&rt, &exchange, first);
-    drain(&rt, &exchange, alike);
+    drain(&rt, &exchange, &mut first);
+    drain(&rt, &exchange, &mut alike);
     equals(&rt, Arc::strong_count(&told), 1);
-    let [first, _] = outlets;
+    drop(alike);
     let_go(exchange, first);
 }
 
