@@ -18,12 +18,12 @@ def needed(wanted):
     """The lines of crates.txt of these crates and of all that they stand on."""
     lines = [line for line in (TOP / "crates.txt").read_text().splitlines() if ":" in line and not line.startswith("#")]
     uses = {line.partition(":")[0]: line.partition(":")[2].split() for line in lines}
-    todo, found = list(wanted), set()
-    while todo:
-        name = todo.pop()
+    left, found = list(wanted), set()
+    while left:
+        name = left.pop()
         if name in uses and name not in found:
             found.add(name)
-            todo += uses[name]
+            left += uses[name]
     return [line for line in lines if line.partition(":")[0] in found]
 
 

@@ -25,12 +25,9 @@ use crate::waiting::{Due, Told, Wait, Waits};
 use rs_adjin::AdjIns;
 use rs_attrs::Attrs;
 use rs_octets::Prefix;
-use rs_rows::{Taken, lie_together};
+use rs_rows::{MOST_OF_BLOCK, Taken, lie_together};
 use std::alloc::{AllocError, Global};
 use std::sync::Arc;
-
-/// So many rows of a block are most of its sixteen.
-const MOST: usize = 9;
 
 /// A prefix at which something else is due than before.
 #[derive(Drop)]
@@ -144,7 +141,7 @@ fn carry_out(rows: &mut Rows, waits: &mut Waits, fresh: &mut Vec<Wait>, change: 
 fn are_most_of_block(changes: &[Change], index: usize) -> bool {
     match (
         changes.get(index),
-        changes.get(index.saturating_add(MOST - 1)),
+        changes.get(index.saturating_add(MOST_OF_BLOCK - 1)),
     ) {
         (Some(first), Some(last)) => lie_together(first.number, last.number),
         _ => false,

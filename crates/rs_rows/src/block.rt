@@ -14,6 +14,9 @@ use std::sync::Arc;
 /// How many rows lie in a block. Of shorter ones more are alike, longer ones take less beside their rows.
 pub(crate) const ROWS: usize = 16;
 
+/// So many rows are most of a block.
+pub const MOST_OF_BLOCK: usize = ROWS / 2 + 1;
+
 /// The rows of neighbouring numbers. Once it is shared nothing changes them.
 #[derive(Drop)]
 pub struct Block {

@@ -43,14 +43,14 @@ impl Model for Cell {
 
 impl Cell {
     /// A free row.
-    pub(crate) fn free() -> Cell
+    fn free() -> Cell
         ensures { result ≡ None }
     {
         Cell::here(Place::free())
     }
 
     /// A row of its own.
-    pub(crate) fn here(place: Place) -> Cell
+    fn here(place: Place) -> Cell
         ensures { result ≡ place }
     {
         Cell {
@@ -96,10 +96,7 @@ impl Cell {
         ensures free { self.new ≡ None }
     {
         match mem::replace(&mut self.lying, Lying::Here(Place::free())) {
-            Lying::Here(mut place) => match place.take() {
-                None => Taken::Nothing,
-                Some(attrs) => Taken::One(attrs),
-            },
+            Lying::Here(mut place) => Taken::of(place.take()),
             Lying::Within { index, block } => Taken::Within { index, block },
         }
     }

@@ -94,10 +94,7 @@ impl Part {
         ensures was { taken_of result ≡ shown (row_at (rows_in self.old) index) }
     {
         match self {
-            Part::Own(block) => match block.take(index) {
-                None => Taken::Nothing,
-                Some(attrs) => Taken::One(attrs),
-            },
+            Part::Own(block) => Taken::of(block.take(index)),
             Part::Over(draft) => draft.take(index),
             Part::Free | Part::Shared(_) => unreachable!(),
         }

@@ -1,6 +1,7 @@
 //! What was taken out of a row.
 
 ghost use Rattle.std.specs.Prelude.{◌≡◌, option_map};
+ghost use Rattle.std.specs.Arc.{arc_value};
 ghost use Rattle.rs_rows.specs.Cells.{taken_of};
 
 use crate::block::Block;
@@ -18,6 +19,16 @@ pub enum Taken {
 }
 
 impl Taken {
+    /// What was taken, as an owner of its attributes.
+    pub(crate) fn of(attrs: Option<Arc<Attrs>>) -> Taken
+        ensures { taken_of result ≡ option_map arc_value attrs }
+    {
+        match attrs {
+            None => Taken::Nothing,
+            Some(attrs) => Taken::One(attrs),
+        }
+    }
+
     /// The attributes, where there was a route.
     pub fn attrs(&self) -> Option<&Attrs>
         ensures { option_map (λ attrs. attrs.now) result ≡ taken_of self.now }
