@@ -50,6 +50,7 @@ impl Rows {
     }
 
     /// The row of a number, where it has a route.
+    #[inline(always)]
     pub(crate) fn get(&self, number: u32) -> Option<Lent<'_>>
         ensures { option_map lent_row result ≡ row_at self.now.rows.items number }
     {
@@ -57,6 +58,7 @@ impl Rows {
     }
 
     /// The row at an index, where it has a route.
+    #[inline(always)]
     pub(crate) fn at(&self, index: usize) -> Option<Lent<'_>>
         ensures { option_map lent_row result ≡ row_at self.now.rows.items index }
     {
@@ -64,13 +66,11 @@ impl Rows {
     }
 
     /// What is due by the row of a number.
+    #[inline(always)]
     pub(crate) fn attrs(&self, number: u32) -> Option<&Arc<Attrs>>
         ensures { option_map (λ attrs. arc_value attrs.now) result ≡ attributes_at self.now.rows.items number }
     {
-        match self.get(number) {
-            Some(row) => Some(row.attrs),
-            None => None,
-        }
+        self.rows.attrs(number as usize)
     }
 
     /// Whether the row of a number is free or has this prefix.

@@ -17,9 +17,9 @@ rows_of ps = flat_map rows_in ps
 
 pub sixteen : (p : Part) → length (rows_in p) ≡ 16
 sixteen part.Free = let none : Option Row = None in length-replicate 16 none
-sixteen (part.Own block) = let n = block.full in omega (arith, n, block.rows.ok)
-sixteen (part.Over draft) = let n = draft.full in omega (arith, n, draft.cells.ok)
-sixteen (part.Shared block) = let b = arc_value block in let n = b.full in omega (arith, n, b.rows.ok)
+sixteen (part.Own block) = block.value.full
+sixteen (part.Over draft) = draft.value.full
+sixteen (part.Shared block) = let b = arc_value block in b.full
 
 pub rows_length : (ps : List Part) → length (rows_of ps) ≡ length ps * 16
 rows_length [] = refl

@@ -12,8 +12,8 @@ free_rows = replicate 16 None
 
 abbrev pub rows_in : Part → List (Option Row)
 rows_in part.Free = free_rows
-rows_in (part.Own block) = block.rows.items
-rows_in (part.Over draft) = draft.cells.items
+rows_in (part.Own block) = block.value.rows.items
+rows_in (part.Over draft) = draft.value.cells.items
 rows_in (part.Shared block) = (arc_value block).rows.items
 
 abbrev pub is_own : Part → Bool

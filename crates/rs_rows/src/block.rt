@@ -1,14 +1,16 @@
 //! Sixteen rows that lie together, of one client or shared.
 
-ghost use Rattle.std.specs.Prelude.{◌≡◌, ◌<◌, None, Some, is_some, option_map, IfOk, IsTrue, replicate, slice_set, vec_len};
+ghost use Rattle.std.specs.Prelude.{◌≡◌, ◌<◌, None, Some, is_some, option_map, IfOk, IsTrue, replicate, slice_set};
 ghost use Rattle.std.specs.Arc.{arc_value};
-ghost use Rattle.rs_rows.specs.Rows.{row_at, shown};
+ghost use Rattle.arrayvec.specs.ArrayVec.{array_vec_len};
+ghost use Rattle.rs_rows.specs.Rows.{joined, row_at, shown};
 ghost use Rattle.rs_rows.specs.Places.{lent_row};
 
 use crate::place::{Lent, Place};
+use arrayvec::ArrayVec;
 use rs_attrs::Attrs;
 use rs_octets::Prefix;
-use std::alloc::{AllocError, Global};
+use std::alloc::AllocError;
 use std::sync::Arc;
 
 /// How many rows lie in a block. Of shorter ones more are alike, longer ones take less beside their rows.
@@ -17,41 +19,50 @@ pub(crate) const ROWS: usize = 16;
 /// So many rows are most of a block.
 pub const MOST_OF_BLOCK: usize = ROWS / 2 + 1;
 
-/// The rows of neighbouring numbers. Once it is shared nothing changes them.
+/// The rows of neighbouring numbers, which lie in the block itself. Once it is shared nothing changes them.
 #[derive(Drop)]
 pub struct Block {
-    pub(crate) rows: Vec<Place>,
-    ghost full: { vec_len rows ≡ 16 },
+    pub(crate) rows: ArrayVec<Place, ROWS>,
+    ghost full: { array_vec_len rows ≡ 16 },
 }
 
 impl Block {
     /// A block whose rows are free.
-    pub(crate) fn free(alloc: Global) -> Result<Block, AllocError>
-        ensures { IfOk result (λ block. block.rows.items ≡ replicate 16 None) }
+    pub(crate) fn free() -> Block
+        ensures { result.rows.items ≡ replicate 16 None }
     {
-        let mut rows = Vec::with_capacity(alloc, ROWS)?;
+        let mut rows = ArrayVec::new();
         for _ in 0..ROWS {
-            rows.push_reserved(Place::free());
+            rows.push(Place::free());
         }
-        Ok(Block { rows })
+        Block { rows }
     }
 
     /// The same rows once more.
-    pub(crate) fn copy(&self, alloc: Global) -> Result<Block, AllocError>
+    pub(crate) fn copy(&self) -> Result<Block, AllocError>
         ensures { IfOk result (λ block. block.rows.items ≡ self.now.rows.items) }
     {
-        let mut rows = Vec::with_capacity(alloc, ROWS)?;
-        for place in &self.rows {
-            rows.push_reserved(place.copy()?);
+        let mut rows = ArrayVec::new();
+        for place in self.rows.iter() {
+            rows.push(place.copy()?);
         }
         Ok(Block { rows })
     }
 
+    /// Where the row at an index lies.
+    #[inline(always)]
+    pub(crate) fn place(&self, index: usize) -> Option<&Place>
+        ensures { joined (option_map (λ place. place.now) result) ≡ row_at self.now.rows.items index }
+    {
+        self.rows.get(index)
+    }
+
     /// The row at an index, where it has a route.
+    #[inline(always)]
     pub(crate) fn at(&self, index: usize) -> Option<Lent<'_>>
         ensures { option_map lent_row result ≡ row_at self.now.rows.items index }
     {
-        match self.rows.get(index) {
+        match self.place(index) {
             Some(place) => place.row(),
             None => None,
         }
@@ -85,7 +96,7 @@ impl Block {
     pub(crate) fn is_free(&self) -> bool
         ensures { IsTrue result → self.now.rows.items ≡ replicate 16 None }
     {
-        for place in &self.rows {
+        for place in self.rows.iter() {
             if !place.is_free() {
                 return false;
             }

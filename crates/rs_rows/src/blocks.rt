@@ -77,12 +77,24 @@ impl Blocks {
     }
 
     /// The row of a number, where it has a route.
+    #[inline(always)]
     pub fn at(&self, number: usize) -> Option<Lent<'_>>
         ensures { option_map lent_row result ≡ row_at self.now.items number }
     {
         match self.parts.get(number / ROWS) {
             None => None,
             Some(part) => part.at(number % ROWS),
+        }
+    }
+
+    /// The attributes of the row of a number, where it has a route.
+    #[inline(always)]
+    pub fn attrs(&self, number: usize) -> Option<&Arc<Attrs>>
+        ensures { option_map (λ attrs. arc_value attrs.now) result ≡ shown (row_at self.now.items number) }
+    {
+        match self.parts.get(number / ROWS) {
+            None => None,
+            Some(part) => part.attrs(number % ROWS),
         }
     }
 

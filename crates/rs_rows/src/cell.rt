@@ -4,10 +4,9 @@ ghost use Rattle.std.specs.Prelude.{◌≡◌, None, Some, option_map, IfOk, IsT
 ghost use Rattle.std.specs.Arc.{arc_value};
 ghost use Rattle.rs_rows.specs.Cells.{taken_of};
 ghost use Rattle.rs_rows.specs.Rows.{joined, row_at, shown};
-ghost use Rattle.rs_rows.specs.Places.{lent_row};
 
 use crate::block::Block;
-use crate::place::{Lent, Place};
+use crate::place::Place;
 use crate::taken::Taken;
 use rs_attrs::Attrs;
 use rs_octets::Prefix;
@@ -39,6 +38,15 @@ impl Model for Cell {
     ghost Value = { Option Row };
 
     ghost view = { λ c. cell_row c.lying };
+}
+
+/// A cell is free before a row is put there.
+impl Default for Cell {
+    fn default() -> Cell
+        ensures { result ≡ None }
+    {
+        Cell::free()
+    }
 }
 
 impl Cell {
@@ -78,16 +86,6 @@ impl Cell {
                 block: block.clone()?,
             },
         })
-    }
-
-    /// The route, where there is one.
-    pub(crate) fn row(&self) -> Option<Lent<'_>>
-        ensures { option_map lent_row result ≡ self.now }
-    {
-        match &self.lying {
-            Lying::Here(place) => place.row(),
-            Lying::Within { index, block } => block.at(*index as usize),
-        }
     }
 
     /// Takes the route out.
@@ -140,7 +138,7 @@ impl Cell {
     }
 
     /// Where the row lies, if it is in a block at all.
-    fn place(&self) -> Option<&Place>
+    pub(crate) fn place(&self) -> Option<&Place>
         ensures { joined (option_map (λ place. place.now) result) ≡ self.now }
     {
         match &self.lying {

@@ -1,46 +1,47 @@
 //! A block of which one client writes most rows.
 
-ghost use Rattle.std.specs.Prelude.{◌≡◌, ◌<◌, None, Some, option_map, IfOk, IsTrue, replicate, slice_set, vec_len};
+ghost use Rattle.std.specs.Prelude.{◌≡◌, ◌<◌, None, Some, option_map, IfOk, IsTrue, replicate, slice_set};
 ghost use Rattle.std.specs.Arc.{arc_value};
-ghost use Rattle.rs_rows.specs.Rows.{row_at, shown};
-ghost use Rattle.rs_rows.specs.Places.{lent_row};
+ghost use Rattle.arrayvec.specs.ArrayVec.{array_vec_len};
+ghost use Rattle.rs_rows.specs.Rows.{joined, row_at, shown};
 ghost use Rattle.rs_rows.specs.Cells.{taken_of};
 
 use crate::block::{Block, ROWS};
 use crate::cell::Cell;
-use crate::place::Lent;
+use crate::place::Place;
 use crate::taken::Taken;
+use arrayvec::ArrayVec;
 use rs_attrs::Attrs;
 use rs_octets::Prefix;
-use std::alloc::{AllocError, Global};
+use std::alloc::AllocError;
 use std::sync::Arc;
 
 /// The rows of a block as they can be written. What is taken out of one that wasn't written yet is a share of the block.
 #[derive(Drop)]
 pub(crate) struct Draft {
-    pub(crate) cells: Vec<Cell>,
-    ghost full: { vec_len cells ≡ 16 },
+    pub(crate) cells: ArrayVec<Cell, ROWS>,
+    ghost full: { array_vec_len cells ≡ 16 },
 }
 
 impl Draft {
     /// The rows of a block once more, each as a share of the block.
-    pub(crate) fn over(alloc: Global, block: &Arc<Block>) -> Result<Draft, AllocError>
+    pub(crate) fn over(block: &Arc<Block>) -> Result<Draft, AllocError>
         ensures { IfOk result (λ draft. draft.cells.items ≡ (arc_value block.now).rows.items) }
     {
-        let mut cells = Vec::with_capacity(alloc, ROWS)?;
+        let mut cells = ArrayVec::new();
         for index in 0..ROWS {
-            cells.push_reserved(Cell::within(block, index as u8)?);
+            cells.push(Cell::within(block, index as u8)?);
         }
         Ok(Draft { cells })
     }
 
-    /// The row at an index, where it has a route.
+    /// Where the row at an index lies.
     #[inline(never)]
-    pub(crate) fn at(&self, index: usize) -> Option<Lent<'_>>
-        ensures { option_map lent_row result ≡ row_at self.now.cells.items index }
+    pub(crate) fn place(&self, index: usize) -> Option<&Place>
+        ensures { joined (option_map (λ place. place.now) result) ≡ row_at self.now.cells.items index }
     {
         match self.cells.get(index) {
-            Some(cell) => cell.row(),
+            Some(cell) => cell.place(),
             None => None,
         }
     }
@@ -68,7 +69,7 @@ impl Draft {
     pub(crate) fn is_free(&self) -> bool
         ensures { IsTrue result → self.now.cells.items ≡ replicate 16 None }
     {
-        for cell in &self.cells {
+        for cell in self.cells.iter() {
             if !cell.is_free() {
                 return false;
             }
@@ -102,12 +103,12 @@ impl Draft {
     }
 
     /// A block of the same rows, which can be shared.
-    pub(crate) fn close(&self, alloc: Global) -> Result<Block, AllocError>
+    pub(crate) fn close(&self) -> Result<Block, AllocError>
         ensures { IfOk result (λ block. block.rows.items ≡ self.now.cells.items) }
     {
-        let mut rows = Vec::with_capacity(alloc, ROWS)?;
-        for cell in &self.cells {
-            rows.push_reserved(cell.copy()?);
+        let mut rows = ArrayVec::new();
+        for cell in self.cells.iter() {
+            rows.push(cell.copy()?);
         }
         Ok(Block { rows })
     }

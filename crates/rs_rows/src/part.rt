@@ -2,13 +2,13 @@
 
 ghost use Rattle.std.specs.Prelude.{◌≡◌, ◌<◌, None, Some, true, option_map, slice_set, IfOk, IfSome};
 ghost use Rattle.std.specs.Arc.{arc_value};
-ghost use Rattle.rs_rows.specs.Rows.{row_at, shown};
+ghost use Rattle.rs_rows.specs.Rows.{joined, row_at, shown};
 ghost use Rattle.rs_rows.specs.Places.{lent_row};
 ghost use Rattle.rs_rows.specs.Cells.{taken_of};
 
 use crate::block::Block;
 use crate::draft::Draft;
-use crate::place::Lent;
+use crate::place::{Lent, Place};
 use crate::taken::Taken;
 use rs_attrs::Attrs;
 use rs_octets::Prefix;
@@ -22,52 +22,111 @@ pub(crate) enum Part {
     /// All are free.
     Free,
     /// They can be written.
-    Own(Block),
+    Own(Box<Block>),
     /// They can be written, and most are to be.
-    Over(Draft),
+    Over(Box<Draft>),
     /// Other clients may have them too.
     Shared(Arc<Block>),
 }
 
 impl Part {
-    ghost use Rattle.rs_rows.specs.Blocks.{is_own, rows_in};
+    ghost use Rattle.rs_rows.specs.Blocks.{free_rows, is_own, rows_in};
 
     /// A block that can be shared. Where memory for that is refused, it is one client's still.
-    fn of(alloc: Global, block: Block) -> Part
-        ensures { rows_in result ≡ block.rows.items }
+    #[inline(never)]
+    fn of(alloc: Global, mut block: Box<Block>) -> Part
+        ensures { rows_in result ≡ block.value.rows.items }
     {
         if block.is_free() {
             return Part::Free;
         }
-        match Arc::new(alloc, block) {
+        match Arc::new(alloc, Box::replace(&mut block, Block::free())) {
             Ok(shared) => Part::Shared(shared),
-            Err(refused) => Part::Own(refused.value),
+            Err(refused) => {
+                Box::replace(&mut block, refused.value);
+                Part::Own(block)
+            }
         }
     }
 
     /// The same of a block of which most rows were to be written.
-    fn of_draft(alloc: Global, draft: Draft) -> Part
-        ensures { rows_in result ≡ draft.cells.items }
+    #[inline(never)]
+    fn of_draft(alloc: Global, draft: Box<Draft>) -> Part
+        ensures { rows_in result ≡ draft.value.cells.items }
     {
         if draft.is_free() {
             return Part::Free;
         }
-        match draft.close(alloc) {
-            Ok(block) => Part::of(alloc, block),
+        let Ok(block) = draft.close() else {
+            return Part::Over(draft);
+        };
+        match Arc::new(alloc, block) {
+            Ok(shared) => Part::Shared(shared),
             Err(_) => Part::Over(draft),
         }
     }
 
-    /// The row at an index, where it has a route.
-    pub(crate) fn at(&self, index: usize) -> Option<Lent<'_>>
-        ensures { option_map lent_row result ≡ row_at (rows_in self.now) index }
+    /// Where the row at an index lies, if the block is not free.
+    #[inline(always)]
+    pub(crate) fn place(&self, index: usize) -> Option<&Place>
+        ensures { joined (option_map (λ place. place.now) result) ≡ row_at (rows_in self.now) index }
     {
         match self {
             Part::Free => None,
-            Part::Own(block) => block.at(index),
-            Part::Over(draft) => draft.at(index),
-            Part::Shared(block) => block.at(index),
+            Part::Own(block) => block.place(index),
+            Part::Over(draft) => draft.place(index),
+            Part::Shared(block) => block.place(index),
         }
+    }
+
+    /// The row at an index, where it has a route.
+    #[inline(always)]
+    pub(crate) fn at(&self, index: usize) -> Option<Lent<'_>>
+        ensures { option_map lent_row result ≡ row_at (rows_in self.now) index }
+    {
+        match self.place(index) {
+            Some(place) => place.row(),
+            None => None,
+        }
+    }
+
+    /// The attributes of the row at an index, where it has a route.
+    #[inline(always)]
+    pub(crate) fn attrs(&self, index: usize) -> Option<&Arc<Attrs>>
+        ensures { option_map (λ attrs. arc_value attrs.now) result ≡ shown (row_at (rows_in self.now) index) }
+    {
+        match self.place(index) {
+            Some(place) => place.attrs(),
+            None => None,
+        }
+    }
+
+    /// A block whose rows are free and can be written.
+    // not inlined: its block, on the stack first, would be made ready by each caller's call
+    #[inline(never)]
+    fn fresh(alloc: Global) -> Result<Part, AllocError>
+        ensures own { IfOk result (λ part. is_own part ≡ true) }
+        ensures rows { IfOk result (λ part. rows_in part ≡ free_rows) }
+    {
+        Ok(Part::Own(Box::new(alloc, Block::free())?))
+    }
+
+    /// The rows of a block once more, as they can be written.
+    #[inline(never)]
+    fn copy_of(alloc: Global, block: &Block) -> Result<Part, AllocError>
+        ensures own { IfOk result (λ part. is_own part ≡ true) }
+        ensures rows { IfOk result (λ part. rows_in part ≡ block.now.rows.items) }
+    {
+        Ok(Part::Own(Box::new(alloc, block.copy()?)?))
+    }
+
+    /// The same, of which most are to be written.
+    #[inline(never)]
+    fn over(alloc: Global, block: &Arc<Block>) -> Result<Part, AllocError>
+        ensures own { IfOk result (λ part. is_own part ≡ true) }
+        ensures rows { IfOk result (λ part. rows_in part ≡ (arc_value block.now).rows.items) }
+    {
+        Ok(Part::Over(Box::new(alloc, Draft::over(block)?)?))
     }
 
     /// The same rows, as they can be written; none where they can be written here. Where `most` of them are to be, what is
@@ -78,10 +137,10 @@ impl Part {
         ensures rows { IfOk result (λ made. IfSome made (λ part. rows_in part ≡ rows_in self.now)) }
     {
         match self {
-            Part::Free => Ok(Some(Part::Own(Block::free(alloc)?))),
+            Part::Free => Ok(Some(Part::fresh(alloc)?)),
             Part::Own(_) | Part::Over(_) => Ok(None),
-            Part::Shared(block) if most => Ok(Some(Part::Over(Draft::over(alloc, block)?))),
-            Part::Shared(block) => Ok(Some(Part::Own(block.copy(alloc)?))),
+            Part::Shared(block) if most => Ok(Some(Part::over(alloc, block)?)),
+            Part::Shared(block) => Ok(Some(Part::copy_of(alloc, block)?)),
         }
     }
 

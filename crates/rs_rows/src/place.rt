@@ -51,6 +51,15 @@ pub struct Lent<'a> {
     pub attrs: &'a Arc<Attrs>,
 }
 
+/// A place is free before a route is put there.
+impl Default for Place {
+    fn default() -> Place
+        ensures { result ≡ None }
+    {
+        Place::free()
+    }
+}
+
 impl Place {
     pub(crate) fn free() -> Place
         ensures { result ≡ None }
@@ -72,6 +81,7 @@ impl Place {
     }
 
     /// The route, where there is one.
+    #[inline(always)]
     pub(crate) fn row(&self) -> Option<Lent<'_>>
         ensures { option_map lent_row result ≡ self.now }
     {
@@ -86,6 +96,17 @@ impl Place {
                 prefix: Prefix::new(*bits, *len)?,
                 attrs,
             }),
+        }
+    }
+
+    /// The attributes of the route, where there is one.
+    #[inline(always)]
+    pub(crate) fn attrs(&self) -> Option<&Arc<Attrs>>
+        ensures { option_map (λ attrs. arc_value attrs.now) result ≡ shown self.now }
+    {
+        match &self.held {
+            Held::Free => None,
+            Held::Taken { attrs, .. } => Some(attrs),
         }
     }
 
@@ -155,9 +176,22 @@ impl Place {
     pub(crate) fn is_same(&self, other: &Place) -> bool
         ensures { IsTrue result → other.now ≡ self.now }
     {
-        match (self.row(), other.row()) {
-            (None, None) => true,
-            (Some(row), Some(other)) => row.prefix == other.prefix && **row.attrs == **other.attrs,
+        match (&self.held, &other.held) {
+            (Held::Free, Held::Free) => true,
+            (
+                Held::Taken {
+                    len,
+                    bits,
+                    attrs,
+                    ..
+                },
+                Held::Taken {
+                    len: other_len,
+                    bits: other_bits,
+                    attrs: other_attrs,
+                    ..
+                },
+            ) => bits == other_bits && len == other_len && **attrs == **other_attrs,
             _ => false,
         }
     }

@@ -7,8 +7,7 @@ pub loop-index-preserved : goal.loop-index-preserved
 loop-index-preserved c =
     let block = arc_value c.args.block.now in
     record {
-      items = c.push_reserved.ensures.items ∙ (λ i. c.loop-index.invariant.items i ++ c.in_ok-within.ensures i ∷ [])
-          ∙ taken_more block.rows.items c.loop-index.index (omega (arith, block.full, c.loop-index-test.true, block.rows.ok));
-      len = omega (arith, c.push_reserved.ensures.len, c.loop-index.invariant.len);
-      room = c.push_reserved.ensures.capacity ∙ c.loop-index.invariant.room;
+      items = c.push.ensures.items ∙ (λ i. c.loop-index.invariant.items i ++ c.in_ok-within.ensures i ∷ [])
+          ∙ taken_more block.rows.items c.loop-index.index (omega (arith, block.full, c.loop-index-test.true));
+      len = omega (arith, c.push.ensures.len, c.loop-index.invariant.len);
     }
