@@ -334,6 +334,11 @@ impl AdjIns {
         self.table.used()
     }
 
+    /// Whether a prefix that no client holds has a number, so that numbers can be given up (`release`).
+    pub fn has_unheld(&self) -> bool {
+        self.table.has_unheld()
+    }
+
     /// The set of these attributes, which gets a number if it has none. A set that no route has is to be
     /// given up (`forget`) once the UPDATE's routes are put.
     ///

@@ -14,13 +14,16 @@ const SWEEP: usize = 4096;
 impl Ribs {
     ghost use Rattle.rs_core.specs.Ribs.{KeepsFresh, KeepsSettings, outlet_count, outlet_in};
 
-    /// Gives up some of the numbers of prefixes that nobody holds or has in a row.
+    /// Gives up some of the numbers of prefixes that nobody holds or has in a row, if there are any that nobody holds.
     pub(crate) fn sweep(&mut self)
         ensures settings { KeepsSettings self.old self.new }
         ensures tables { adj_ins.Same self.old.tables self.new.tables }
         ensures outlets { self.new.outlets ≡ self.old.outlets }
         ensures kept { KeepsFresh self.old self.new }
     {
+        if !self.tables.has_unheld() {
+            return;
+        }
         for _step in 0..self.tables.numbers().min(SWEEP) {
             self.sweep_next();
         }
