@@ -75,6 +75,7 @@ impl<'a> Part<'a> {
     }
 
     /// The attribute with AS numbers in two octets.
+    #[inline(never)]
     fn narrowed(head: Head, value: &'a [u8]) -> Part<'a>
         requires len { head.len ≡ length value.now }
         requires legal { IsLegalAttribute (attribute_by head value.now) }
@@ -122,6 +123,7 @@ impl<'a> Part<'a> {
     }
 
     /// Writes it.
+    #[inline(always)]
     pub(crate) fn put(&self, out: &mut [u8], at: usize) -> usize
         requires short { length self.now.value < 65536 }
         requires fits { at + length (attribute_octets self.now) ≤ length out.old }
@@ -180,6 +182,7 @@ impl<'a> Left<'a> {
     }
 
     /// Takes the first off: its head and its value.
+    #[inline(always)]
     fn take_first(&mut self) -> Option<(&'a Head, &'a [u8])>
         ensures first { MatchOption result ((self.old ≡ []) × (self.new ≡ [])) (λ h. self.old ≡ attribute_by h.0.now h.1.now ∷ self.new) }
         ensures len { IfSome result (λ h. h.0.now.len ≡ length h.1.now) }
@@ -193,6 +196,7 @@ impl<'a> Left<'a> {
     }
 
     /// Takes attributes off up to the first that needs AS4_PATH or AS4_AGGREGATOR beside it.
+    #[inline(never)]
     fn take_beside(&mut self) -> Option<Part<'a>>
         ensures { MatchOption result ((flat_map as4_of self.old ≡ []) × (self.new ≡ [])) (λ p. flat_map as4_of self.old ≡ p ∷ flat_map as4_of self.new) }
     {
@@ -243,6 +247,7 @@ impl<'a> Iterator for Parts<'a> {
 
     ghost remaining = { item_count (λ left. left) };
 
+    #[inline(always)]
     fn next(&mut self) -> Option<Part<'a>> {
         match self.mode {
             Mode::Four => {}
