@@ -21,7 +21,7 @@ ghost use Rattle.rs_outlet.specs.declared.waiting.Due.{Due};
 ghost use Rattle.rs_outlet.specs.Inside.{AreBacked, AreBelow, AreChained, AreDue, AreOwn, ArePlaced, ChangesFit, FitsAlone, HaveRows, IsOwn, RowsFit, attributes_at, is_changed, numbers_of, row_at, loc_of, numbers_from};
 
 use crate::table::Rows;
-use crate::waiting::{Due, Told, Wait, Waits};
+use crate::waiting::{Due, Sorting, Told, Wait, Waits};
 use rs_adjin::AdjIns;
 use rs_attrs::Attrs;
 use rs_octets::Prefix;
@@ -197,8 +197,15 @@ pub(crate) fn make_room(
     Ok(fresh)
 }
 
-/// Carries out the changes, for which there is room. Without a change all stays as it is.
-pub(crate) fn commit(rows: &mut Rows, waits: &mut Waits, changes: Vec<Change>, mut fresh: Vec<Wait>)
+/// Carries out the changes, for which there is room. Without a change all stays as it is. What waits then is sorted as it
+/// was for the outlets before, if it came in the same order.
+pub(crate) fn commit(
+    rows: &mut Rows,
+    waits: &mut Waits,
+    changes: Vec<Change>,
+    mut fresh: Vec<Wait>,
+    sorting: &mut Sorting,
+)
     requires rows { HaveRows changes.items rows.old.rows }
     requires once { IsDistinct (eq_by_cmp prefix_order) (prefixes_of changes.items) }
     requires numbers { IsDistinct nat_eq (numbers_of changes.items) }
@@ -222,5 +229,5 @@ pub(crate) fn commit(rows: &mut Rows, waits: &mut Waits, changes: Vec<Change>, m
     for change in changes {
         carry_out(rows, waits, &mut fresh, change);
     }
-    waits.add(fresh);
+    waits.add(fresh, sorting);
 }

@@ -1,10 +1,11 @@
 //! The choices of a turn of neighbouring outlets: where clients are decided alike, the best route for a prefix is
-//! found once. Beside them stands what rules left of routes.
+//! found once. Beside them stands what rules left of routes, and how what waits was put in order.
 
 ghost use Rattle.std.specs.Prelude.{◌≡◌, Some, None, ℕ, Option, [], IfSome, Contains};
 ghost use Rattle.rs_outlet.specs.Decided.Choices.{MayKeep};
 
 use crate::stripped::Stripped;
+use crate::waiting::Sorting;
 use std::alloc::Global;
 
 /// How many choices are kept.
@@ -28,6 +29,8 @@ pub struct Choices {
     next: usize,
     /// The routes that rules changed.
     pub(crate) stripped: Stripped,
+    /// How what waits was put in order.
+    pub(crate) sorting: Sorting,
 }
 
 /// The first place from one on whose choice is for no lesser number; where there is none, the end.
@@ -49,6 +52,7 @@ impl Choices {
             kept: Vec::new(alloc),
             next: 0,
             stripped: Stripped::new(alloc),
+            sorting: Sorting::new(alloc),
         }
     }
 

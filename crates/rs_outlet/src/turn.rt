@@ -310,7 +310,13 @@ impl Outlet {
             &changes,
         )?;
         self.asked &= changes.is_empty();
-        commit(&mut self.rows, &mut self.waits, changes, fresh);
+        commit(
+            &mut self.rows,
+            &mut self.waits,
+            changes,
+            fresh,
+            &mut choices.sorting,
+        );
         self.touched.clear();
         self.last = Last::Done(turned);
         Ok(turned)

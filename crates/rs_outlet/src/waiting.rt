@@ -2,10 +2,10 @@
 //! asked for again. Each has a slot. The slots stand in two `parts`, each in rising order, so that a turn
 //! does not go over all that waits for a client that takes nothing, or little.
 //!
-//! Before the first message one part is made of both. From the second message on, once nothing is to be
-//! withdrawn, each slot of the first part that is to be announced is chained to the next one that may have
-//! the same attributes (`chains`). A message is read off along such a chain and slot by slot in the late part,
-//! the lesser prefix first.
+//! Before the first message one part is made of both. From the second message on, or from the first where the client
+//! took all that waited before, once nothing is to be withdrawn, each slot of the first part that is to be announced is
+//! chained to the next one that may have the same attributes (`chains`). A message is read off along such a chain and slot
+//! by slot in the late part, the lesser prefix first. `sorting` is how new slots come into order, for several outlets.
 
 ghost use Rattle.std.specs.Prelude.{List, ◌≡◌, ◌≤◌, ◌<◌, ◌+◌, ℕ, Option, None, Some, [], true, false, drop, length, take, vec_len, slice_get, slice_set, option_map, if◌then◌else◌, IfSome, IsTrue, OnOk, ◌++◌};
 ghost use Rattle.std.specs.List.{AllWithin, Contains, IsDistinct, list_any};
@@ -25,9 +25,11 @@ mod choosing;
 mod marking;
 mod merging;
 mod parts;
+mod sorting;
 
 use crate::waiting::chains::Keyed;
 use crate::waiting::parts::{open_in, sort_from};
+pub(crate) use crate::waiting::sorting::Sorting;
 use rs_attrs::Attrs;
 use rs_octets::Prefix;
 use rs_rows::{Block, Taken};
@@ -76,6 +78,8 @@ pub(crate) struct Waits {
     pub(crate) sorted: usize,
     /// A message began since the first part was made.
     pub(crate) ready: bool,
+    /// All that waited was taken since the last first message: so much is taken of what waits next, too.
+    pub(crate) eager: bool,
     /// For each slot of the first part the next one that may have its attributes; none where slots are not chained.
     pub(crate) chains: Vec<u32>,
     /// While slots are chained: those that are to be announced, in the order in which they were chained.
@@ -115,6 +119,7 @@ impl Waits {
             slots: Vec::new(alloc),
             sorted: 0,
             ready: false,
+            eager: false,
             chains: Vec::new(alloc),
             order: Vec::new(alloc),
             exact: false,

@@ -10,10 +10,12 @@ ghost use Rattle.rs_outlet.specs.Inside.{AreBacked, AreChained};
 ghost use Rattle.rs_rows.specs.Rows.{Row};
 
 use crate::table::Rows;
-use crate::waiting::parts::{drop_shut, put_slots, sort_from};
+use crate::waiting::parts::{drop_shut, put_slots, sort_from, sort_like_others};
+use crate::waiting::sorting::Sorting;
 use crate::waiting::{Wait, Waits};
 use rs_adjin::AdjIns;
 use std::alloc::Global;
+use std::mem;
 
 /// Both parts become one where the late one's length squared is over so many times the first one's. So a
 /// slot that is added costs a share of the merge that falls as the root of what waits.
@@ -35,8 +37,9 @@ fn renew<T: Drop>(alloc: Global, room: &mut Vec<T>)
 }
 
 impl Waits {
-    /// Adds slots, for which there is room once those that wait no more are dropped.
-    pub(crate) fn add(&mut self, more: Vec<Wait>)
+    /// Adds slots, for which there is room once those that wait no more are dropped. They are sorted as those of the outlets
+    /// before, if they came in the same order.
+    pub(crate) fn add(&mut self, more: Vec<Wait>, sorting: &mut Sorting)
         requires room { open_count self.old.slots.items + vec_len more ≤ vec_capacity self.old.slots }
         requires fresh { AreFresh self.old.slots.items more.items }
         ensures slots { (q : Prefix) → open_at q self.new.slots.items ≡ open_at q (self.old.slots.items ++ more.items) }
@@ -45,7 +48,7 @@ impl Waits {
         ensures chained { (rows : List (Option Row)) → AreChained rows (take self.old.sorted self.old.slots.items) self.old.chains.items → AreChained rows (take self.new.sorted self.new.slots.items) self.new.chains.items }
     {
         self.make_room(more.len());
-        self.add_late(more);
+        self.add_late(more, sorting);
     }
 
     /// Makes room for so many slots behind the others, and keeps the late part short.
@@ -75,6 +78,7 @@ impl Waits {
         if self.waiting > 0 {
             return;
         }
+        self.eager = true;
         self.most = self.most.max(self.slots.len());
         self.merge(None);
         if self.most > MANY {
@@ -123,7 +127,7 @@ impl Waits {
     }
 
     /// Adds slots to the late part, for which there is room. The first part and its chains stay.
-    fn add_late(&mut self, more: Vec<Wait>)
+    fn add_late(&mut self, more: Vec<Wait>, sorting: &mut Sorting)
         requires room { vec_len self.old.slots + vec_len more ≤ vec_capacity self.old.slots }
         requires fresh { AreFresh self.old.slots.items more.items }
         ensures slots { (q : Prefix) → open_at q self.new.slots.items ≡ open_at q (self.old.slots.items ++ more.items) }
@@ -133,7 +137,7 @@ impl Waits {
     {
         let count = more.len();
         put_slots(&mut self.slots, self.sorted, more);
-        sort_from(Some(self.alloc), &mut self.slots, self.sorted);
+        sort_like_others(sorting, &mut self.slots, self.sorted);
         self.waiting += count;
     }
 
@@ -196,9 +200,34 @@ impl Waits {
         self.news = 0;
     }
 
-    /// Makes the slots ready for a message: for the first one they are one part, and for a later one the first part
-    /// is chained, once nothing is to be withdrawn. It stays so while others are added to the late part. It takes no
-    /// memory.
+    /// Makes one part of the slots for a first message, and answers whether they are to be chained before it.
+    fn begin_first(&mut self) -> bool
+        ensures chains { self.new.chains.items ≡ [] }
+        ensures slots { (q : Prefix) → open_at q self.new.slots.items ≡ open_at q self.old.slots.items }
+        ensures withdrawn { withdrawn_count self.new.slots.items ≡ withdrawn_count self.old.slots.items }
+        ensures capacity { vec_capacity self.new.slots ≡ vec_capacity self.old.slots }
+    {
+        self.make_one_part(None);
+        self.chains.clear();
+        self.ready = true;
+        mem::replace(&mut self.eager, false)
+    }
+
+    /// Chains the slots of the first part, if they aren't chained and nothing is to be withdrawn.
+    fn chain_news(&mut self, rows: &Rows, ins: &AdjIns)
+        requires chained { AreChained rows.now.rows.items (take self.old.sorted self.old.slots.items) self.old.chains.items }
+        ensures chained { AreChained rows.now.rows.items (take self.new.sorted self.new.slots.items) self.new.chains.items }
+        ensures slots { self.new.slots.items ≡ self.old.slots.items }
+        ensures capacity { vec_capacity self.new.slots ≡ vec_capacity self.old.slots }
+    {
+        if self.chains.is_empty() && self.first_withdrawn().is_none() {
+            self.chain(rows, ins);
+        }
+    }
+
+    /// Makes the slots ready for a message: for the first one they are one part. That is chained for the second one, or for
+    /// the first of a client that took all before, once nothing is to be withdrawn, and stays so while others are added to the
+    /// late part. It takes no memory.
     pub(crate) fn prepare(&mut self, rows: &Rows, ins: &AdjIns)
         requires backed { AreBacked rows.now.rows.items self.old.slots.items }
         requires chained { AreChained rows.now.rows.items (take self.old.sorted self.old.slots.items) self.old.chains.items }
@@ -207,12 +236,10 @@ impl Waits {
         ensures withdrawn { withdrawn_count self.new.slots.items ≡ withdrawn_count self.old.slots.items }
         ensures capacity { vec_capacity self.new.slots ≡ vec_capacity self.old.slots }
     {
-        if !self.ready {
-            self.make_one_part(None);
-            self.chains.clear();
-            self.ready = true;
-        } else if self.chains.is_empty() && self.first_withdrawn().is_none() {
-            self.chain(rows, ins);
+        if self.ready {
+            self.chain_news(rows, ins);
+        } else if self.begin_first() {
+            self.chain_news(rows, ins);
         }
     }
 }

@@ -22,27 +22,27 @@ pub invariant_of-self : goal.invariant_of-self
 invariant_of-self c =
     let was = c.args.self.now in
     let put = c.put_slots.new.slots.items in
-    let new = c.sort_from.new.slots.items in
-    let moved = sum_by-IsPermutation (λ (w : Wait). cond w.open 1 0) put new c.sort_from.ensures.permutation in
-    let first : take was.sorted new ≡ take was.sorted was.slots.items = c.sort_from.ensures.first ∙ c.put_slots.ensures.first in
+    let new = c.sort_like_others.new.slots.items in
+    let moved = sum_by-IsPermutation (λ (w : Wait). cond w.open 1 0) put new c.sort_like_others.ensures.permutation in
+    let first : take was.sorted new ≡ take was.sorted was.slots.items = c.sort_like_others.ensures.first ∙ c.put_slots.ensures.first in
     record {
       counted = omega (arith, moved, c.put_slots.ensures.count, was.counted, c.len-count.ensures);
       withdrawn = subst (λ (ws : List Wait). AllWithin (λ (w : Wait). is_withdrawn w ≡ false) ws 0 was.gone) (sym first) was.withdrawn;
       announced = subst (λ (ws : List Wait). AllWithin (λ (w : Wait). is_announced w ≡ false) ws 0 was.news) (sym first) was.announced;
-      within = omega (arith, c.put_slots.ensures.within, length_permutation put new c.sort_from.ensures.permutation, c.put_slots.new.slots.ok, c.sort_from.new.slots.ok);
+      within = omega (arith, c.put_slots.ensures.within, length_permutation put new c.sort_like_others.ensures.permutation, c.put_slots.new.slots.ok, c.sort_like_others.new.slots.ok);
       first = first_same was.sorted new was.slots.items first was.first;
-      late = late_rise was.sorted new c.sort_from.ensures.sorted (moved_apart (drop was.sorted put) (drop was.sorted new) c.sort_from.ensures.late c.put_slots.ensures.late);
-      apart = apart_moved put new c.sort_from.ensures.permutation c.put_slots.ensures.apart;
+      late = late_rise was.sorted new c.sort_like_others.ensures.sorted (moved_apart (drop was.sorted put) (drop was.sorted new) c.sort_like_others.ensures.late c.put_slots.ensures.late);
+      apart = apart_moved put new c.sort_like_others.ensures.permutation c.put_slots.ensures.apart;
       by_hash = λ is. subst (λ (ws : List Wait). AreByHash ws was.chains.items) (sym first) (was.by_hash is);
     }
 
 pub returns-clause-slots : goal.returns-clause-slots
-returns-clause-slots c = λ q. open_moved c.put_slots.new.slots.items c.sort_from.new.slots.items c.put_slots.ensures.apart c.sort_from.ensures.permutation q ∙ c.put_slots.ensures.slots q
+returns-clause-slots c = λ q. open_moved c.put_slots.new.slots.items c.sort_like_others.new.slots.items c.put_slots.ensures.apart c.sort_like_others.ensures.permutation q ∙ c.put_slots.ensures.slots q
 
 pub returns-clause-withdrawn : goal.returns-clause-withdrawn
 returns-clause-withdrawn c =
-    let moved = sum_by-IsPermutation (λ (w : Wait). one_if (is_withdrawn w)) c.put_slots.new.slots.items c.sort_from.new.slots.items c.sort_from.ensures.permutation in
+    let moved = sum_by-IsPermutation (λ (w : Wait). one_if (is_withdrawn w)) c.put_slots.new.slots.items c.sort_like_others.new.slots.items c.sort_like_others.ensures.permutation in
     omega (arith, moved, c.put_slots.ensures.withdrawn)
 
 pub returns-clause-chained : goal.returns-clause-chained
-returns-clause-chained c = λ rows. subst (λ (ws : List Wait). AreChained rows ws c.args.self.now.chains.items) (sym (c.sort_from.ensures.first ∙ c.put_slots.ensures.first))
+returns-clause-chained c = λ rows. subst (λ (ws : List Wait). AreChained rows ws c.args.self.now.chains.items) (sym (c.sort_like_others.ensures.first ∙ c.put_slots.ensures.first))
