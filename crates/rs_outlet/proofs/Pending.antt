@@ -1,6 +1,7 @@
 -- What waits to be sent: the list of it, how it is found and how it changes.
 pub mod Deduped
 pub mod Chains
+pub mod Linking
 pub mod Slots
 pub mod Withdrawals
 pub mod Finding

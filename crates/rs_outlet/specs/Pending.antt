@@ -5,4 +5,5 @@ pub mod Parts
 pub mod Marking
 pub mod Owed
 pub mod Chains
+pub mod Linking
 pub mod Choosing

@@ -22,12 +22,14 @@ ghost use Rattle.rs_outlet.specs.Pending.Slots.{AreApart, AreByHash, AreFresh, I
 
 mod chains;
 mod choosing;
+mod linking;
 mod marking;
 mod merging;
 mod parts;
 mod sorting;
 
 use crate::waiting::chains::Keyed;
+use crate::waiting::linking::table_size;
 use crate::waiting::parts::{open_in, sort_from};
 pub(crate) use crate::waiting::sorting::Sorting;
 use rs_attrs::Attrs;
@@ -82,7 +84,7 @@ pub(crate) struct Waits {
     pub(crate) eager: bool,
     /// For each slot of the first part the next one that may have its attributes; none where slots are not chained.
     pub(crate) chains: Vec<u32>,
-    /// While slots are chained: those that are to be announced, in the order in which they were chained.
+    /// Room for chaining slots: a table of their hashes, or those that are to be announced, put in order.
     pub(crate) order: Vec<Keyed>,
     /// Slots are chained by their very attributes, and not by the hash of these.
     pub(crate) exact: bool,
@@ -154,7 +156,8 @@ impl Waits {
         ensures room { OnOk result (count ≤ vec_capacity self.new.slots) }
         ensures kept { vec_capacity self.old.slots ≤ vec_capacity self.new.slots }
     {
-        let more = count.saturating_sub(self.order.len());
+        let places = count.max(table_size(count));
+        let more = places.saturating_sub(self.order.len());
         self.order.reserve(more)?;
         let more = count.saturating_sub(self.chains.len());
         self.chains.reserve(more)?;

@@ -1,9 +1,9 @@
 //! The chains of the slots that wait: each slot that is to be announced leads to the next one that may have
 //! its attributes, so that a message goes along a chain and meets few others.
 //!
-//! The slots are put in order by a key and by place, and those of one key are chained. The key is the hash of
-//! their attributes, which each has already, so that no attributes are compared. A member can choose
-//! attributes that share one hash: where a message passed over many slots of its hash, the key is from then on
+//! Slots of one hash are chained, which each has already, so that no attributes are compared: by a table (`linking`),
+//! or where that doesn't do, or slots are many, put in order by their hash and by place. A member can choose
+//! attributes that share one hash: where a message passed over many slots of its hash, slots are from then on put in order by
 //! the number of the set of their attributes, which the Adj-RIBs-In found by order when they were heard.
 //! Attributes of no such set, as rules make them, are put in order by themselves.
 
@@ -23,6 +23,7 @@ ghost use Rattle.rs_outlet.specs.Pending.Chains.{AreInOrder, AreKeyed, AreLinked
 ghost use Rattle.rs_outlet.specs.Pending.Choosing.{shares};
 
 use crate::table::Rows;
+use crate::waiting::linking::chain_by_hash;
 use crate::waiting::{Due, Wait, Waits};
 use rs_adjin::AdjIns;
 use rs_attrs::Attrs;
@@ -249,8 +250,9 @@ fn put_keyed_in_order(exact: bool, rows: &Rows, slots: &[Wait], order: &mut Vec<
     }
 }
 
-/// Puts the slots that are to be announced in order and chains them; without room for it none is chained.
-fn chain_in_order(
+/// Chains the slots that are to be announced: by a table of their hashes, or else put in order; without room for it none is
+/// chained.
+fn chain_slots(
     exact: bool,
     ins: &AdjIns,
     rows: &Rows,
@@ -261,6 +263,9 @@ fn chain_in_order(
     ensures chained { AreChained rows.now.rows.items slots.now chains.new.items }
     ensures by_hash { exact ≡ false → AreByHash slots.now chains.new.items }
 {
+    if !exact && chain_by_hash(slots, order, chains) {
+        return;
+    }
     if !list_all(exact, ins, rows, slots, order) {
         chains.clear();
         return;
@@ -291,7 +296,7 @@ impl Waits {
         ensures capacity { vec_capacity self.new.slots ≡ vec_capacity self.old.slots }
         ensures chained { AreChained rows.now.rows.items (take self.new.sorted self.new.slots.items) self.new.chains.items }
     {
-        chain_in_order(
+        chain_slots(
             self.exact,
             ins,
             rows,

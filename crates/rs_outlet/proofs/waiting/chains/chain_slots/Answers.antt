@@ -2,7 +2,7 @@ use Rattle.std.proofs.Common.{length, subst, sym}
 use Rattle.rs_adjin.specs.AdjIns.{set_of}
 use Rattle.rs_outlet.specs.Pending.Chains.{AreKeyed}
 use Rattle.rs_outlet.proofs.Pending.Chains.{keyed_again, linked_by_hash, linked_chained}
-use Rattle.rs_outlet.proofs.waiting.chains.chain_in_order.Goals as goal
+use Rattle.rs_outlet.proofs.waiting.chains.chain_slots.Goals as goal
 
 pub returns-else-not-chain_all-clause-chained : goal.returns-else-not-chain_all-clause-chained
 returns-else-not-chain_all-clause-chained c =
