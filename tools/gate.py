@@ -8,8 +8,8 @@ built rs_served, records one and plays the record, and gives both programs confi
 plain function (`plain`): of their fronts, with losses, cut and changed octets, refused memory and without threads, and of random
 sessions. It plays hostile members to the built rs_served, those whose play takes seconds. It runs tests
 of calls that take no memory where requests are counted and a test of outlets where memory is refused, compares the example
-configurations with those that are tested, and looks whether what the pages name is there. The last line is 'N passed, M failed'
-over all of it; the exit status is 0 where nothing failed.
+configurations with those that are tested, and looks whether what the pages name is there. What failed is said once more at
+the end. The last line is 'N passed, M failed' over all of it; the exit status is 0 where nothing failed.
 
 It reads the repository, and writes nothing but what `rt ci` itself writes.
 """
@@ -53,6 +53,10 @@ TOP = pathlib.Path(__file__).resolve().parent.parent
 HOSTILE = "abcdegn"
 PAUSE = 2
 TICK = os.sysconf("SC_CLK_TCK")
+# What `rt ci` says of a crate, a test or an edit that failed.
+FAILED = re.compile(r"^rt: .*(fail|not proved|no answer|refus)|FAILED|no-answer")
+# So many lines on what failed stand above the last line.
+MOST_TOLD = 12
 KINDS = ("proofs", "tests")
 
 Process = collections.namedtuple("Process", "parent started seconds")
@@ -113,15 +117,17 @@ def lanes():
 
 
 def run_gate():
-    """Runs `rt ci`; answers its counts, and the processor seconds of each crate and kind."""
+    """Runs `rt ci`; answers its counts, what it said of what failed, and the processor seconds of each crate and kind."""
     os.environ.setdefault("RT_JOBS", str(lanes()))
     tasks, seconds, over = {}, {}, threading.Event()
-    line = ""
+    line, told = "", []
     with subprocess.Popen(["rt", "ci"], cwd=TOP, stdout=subprocess.PIPE, stderr=subprocess.STDOUT, text=True) as gate:
         watcher = threading.Thread(target=watch, args=(gate.pid, over, tasks, seconds), daemon=True)
         watcher.start()
         for line in gate.stdout:
             print(line, end="", flush=True)
+            if FAILED.search(line):
+                told.append(line.strip())
         status = gate.wait()
     over.set()
     watcher.join()
@@ -132,7 +138,7 @@ def run_gate():
     took = collections.Counter()
     for top, spent in seconds.items():
         took[tasks[top]] += spent
-    return passed, failed, took
+    return passed, failed, told if failed else [], took
 
 
 def tell_times(took, started):
@@ -186,12 +192,20 @@ def play_all(crates, folder):
     yield from check_pages()
 
 
+def noted(results, told):
+    """These results; each that failed is listed too."""
+    for name, wrong in results:
+        if wrong:
+            told.append(f"{name}: {wrong}")
+        yield name, wrong
+
+
 def main():
     if not shutil.which("rt"):
         print("rt, the command of the Rattle toolchain, is not on the PATH\n0 passed, 1 failed")
         return 1
     started = time.monotonic()
-    passed, failed, took = run_gate()
+    passed, failed, told, took = run_gate()
     tell_times(took, started)
     beside = (
         ("The wrong programs", play_edits(count=lanes())),
@@ -199,10 +213,12 @@ def main():
     )
     for what, results in beside:
         began, used = time.monotonic(), processor_minutes()
-        held, differ = tell(results)
+        held, differ = tell(noted(results, told))
         tell_time(what, began, used)
         passed, failed = passed + held, failed + differ
     tell_time("The whole", started, 0)
+    for line in told[:MOST_TOLD]:
+        print(f"failed: {line[:400]}")
     print(f"{passed} passed, {failed} failed")
     return 1 if failed else 0
 
