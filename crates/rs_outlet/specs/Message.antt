@@ -2,3 +2,4 @@
 pub mod Next
 pub mod Begins
 pub mod Begun
+pub mod Written

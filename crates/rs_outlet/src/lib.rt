@@ -41,9 +41,11 @@ mod table;
 mod touched;
 mod turn;
 mod waiting;
+mod written;
 
 pub use answers::{Last, Speech, Turned};
 pub use choices::Choices;
 pub use noting::note_all;
 pub use outlet::Outlet;
 pub use routes::Routes;
+pub use written::Written;

@@ -27,6 +27,7 @@ use crate::sizes::{batch, room};
 use crate::table::Rows;
 use crate::touched::Touched;
 use crate::waiting::Waits;
+use crate::written::Written;
 use rs_adjin::AdjIns;
 use rs_attrs::Mode;
 use rs_octets::Prefix;
@@ -299,8 +300,8 @@ impl Outlet {
     }
 
     /// Begins the next message, where none is in flight. The Adj-RIBs-In tell which attributes are of one set, so that it
-    /// finds those that it tells of together.
-    pub fn begin(&mut self, ins: &AdjIns)
+    /// finds those that it tells of together. A message that was `written` before is copied.
+    pub fn begin(&mut self, ins: &AdjIns, written: &mut Written)
         ensures client { self.new.client ≡ self.old.client }
         ensures extended { self.new.extended ≡ self.old.extended }
         ensures rest { self.new ≡ record self.old { told = self.new.told; flight = self.new.flight; keepalive_due = self.new.keepalive_due; note = self.new.note; marked = self.new.marked; waits = self.new.waits } }
@@ -315,7 +316,7 @@ impl Outlet {
         if self.start < self.end {
             return;
         }
-        self.begin_next(ins);
+        self.begin_next(ins, written);
     }
 
     /// The first octets in flight were taken.

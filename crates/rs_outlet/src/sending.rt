@@ -3,18 +3,20 @@
 //! attributes.
 
 ghost use Rattle.std.specs.Prelude.{◌≡◌, ◌+◌, ◌≤◌, ◌<◌, List, Option, true, false, None, Some, length, take, vec_len};
+ghost use Rattle.std.specs.Arc.{arc_value};
 ghost use Rattle.rs_open.specs.Writing.{keepalive};
 ghost use Rattle.rs_open.specs.declared.short.Short.{Short};
 ghost use Rattle.rs_packer.specs.Packed.{IsLongestFront, announcement, withdrawal};
 ghost use Rattle.rs_outlet.specs.Message.Next.{note_octets};
 ghost use Rattle.rs_outlet.specs.Message.Begins.{BeginsUpdate};
 ghost use Rattle.rs_outlet.specs.Views.{WaitsAreExact};
-ghost use Rattle.rs_outlet.specs.Pending.Choosing.{AnyPasses, IsLeastOf, MayUpdate, NoneWithdrawn, WaitsFor};
+ghost use Rattle.rs_attrs.specs.Writing.{IsLegal};
+ghost use Rattle.rs_outlet.specs.Pending.Choosing.{AnyPasses, AreChosen, passing, shares, IsLeastOf, MayUpdate, NoneWithdrawn, WaitsFor};
 ghost use Rattle.rs_outlet.specs.Inside.{AreBacked, AreChained, RowsFit};
 ghost use Rattle.rs_outlet.specs.declared.answers.Speech.{Speech};
 ghost use Rattle.rs_rows.specs.Rows.{Row};
 ghost use Rattle.std.specs.Vec.{vec_capacity};
-ghost use Rattle.rs_outlet.specs.Pending.Slots.{is_announced, is_withdrawn};
+ghost use Rattle.rs_outlet.specs.Pending.Slots.{is_announced, is_withdrawn, rising};
 ghost use Rattle.rs_open.specs.Notes.{limit_octets};
 
 use crate::answers::Speech;
@@ -22,11 +24,13 @@ use crate::outlet::Outlet;
 use crate::sizes::{most_prefixes, usual_prefixes};
 use crate::table::Rows;
 use crate::waiting::Waits;
+use crate::written::Written;
 use rs_adjin::AdjIns;
 use rs_attrs::{Attrs, Mode, attributes_are_legal};
 use rs_octets::Prefix;
 use rs_open::{Limit, Short, write_keepalive, write_note};
 use rs_packer::{Packed, pack_announced, pack_withdrawn};
+use std::sync::Arc;
 
 const NOTHING: Packed = Packed {
     octets: 0,
@@ -76,7 +80,13 @@ fn pack_gone(prefixes: &[Prefix], limit: usize, out: &mut [u8]) -> Packed
 }
 
 /// Writes the longest announcement of these prefixes that fits into the first octets.
-fn pack_news(attrs: &Attrs, mode: Mode, prefixes: &[Prefix], limit: usize, out: &mut [u8]) -> Packed
+fn write_news(
+    attrs: &Attrs,
+    mode: Mode,
+    prefixes: &[Prefix],
+    limit: usize,
+    out: &mut [u8],
+) -> Packed
     requires some { 0 < length prefixes.now }
     requires limit { limit ≤ 65535 }
     requires room { limit ≤ length out.old }
@@ -86,8 +96,41 @@ fn pack_news(attrs: &Attrs, mode: Mode, prefixes: &[Prefix], limit: usize, out: 
     ensures longest { IsLongestFront (announcement attrs.now mode) limit prefixes.now result.prefixes }
     ensures octets { take result.octets out.new ≡ announcement attrs.now mode (take result.prefixes prefixes.now) }
     ensures most { result.octets ≤ limit }
+    ensures room { length out.new ≡ length out.old }
 {
     pack_announced(attrs, mode, prefixes, &mut out[..limit])
+}
+
+/// The same, where the octets of a message that was written before are copied.
+fn pack_news(
+    attrs: &Arc<Attrs>,
+    mode: Mode,
+    prefixes: &[Prefix],
+    limit: usize,
+    out: &mut [u8],
+    written: &mut Written,
+) -> Packed
+    requires some { 0 < length prefixes.now }
+    requires limit { limit ≤ 65535 }
+    requires room { limit ≤ length out.old }
+    requires fits { length (announcement (arc_value attrs.now) mode (take 1 prefixes.now)) ≤ limit }
+    ensures some { 0 < result.prefixes }
+    ensures within { result.prefixes ≤ length prefixes.now }
+    ensures longest { IsLongestFront (announcement (arc_value attrs.now) mode) limit prefixes.now result.prefixes }
+    ensures octets { take result.octets out.new ≡ announcement (arc_value attrs.now) mode (take result.prefixes prefixes.now) }
+    ensures most { result.octets ≤ limit }
+{
+    if let Some(packed) = written.repeat(attrs, mode, prefixes, limit, out) {
+        return packed;
+    }
+    let packed = write_news(attrs, mode, prefixes, limit, out);
+    written.keep(
+        attrs,
+        mode,
+        &prefixes[..packed.prefixes],
+        &out[..packed.octets],
+    );
+    packed
 }
 
 /// The longest withdrawal into a message's room.
@@ -105,18 +148,31 @@ fn put_withdrawal(prefixes: &[Prefix], limit: Limit, out: &mut Vec<u8>) -> Packe
 }
 
 /// The longest announcement into a message's room.
-fn put_announcement(attrs: &Attrs, speech: Speech, prefixes: &[Prefix], out: &mut Vec<u8>) -> Packed
+fn put_announcement(
+    attrs: &Arc<Attrs>,
+    speech: Speech,
+    prefixes: &[Prefix],
+    out: &mut Vec<u8>,
+    written: &mut Written,
+) -> Packed
     requires some { 0 < length prefixes.now }
     requires room { limit_octets speech.limit ≤ vec_len out.old }
-    requires fits { length (announcement attrs.now speech.mode (take 1 prefixes.now)) ≤ limit_octets speech.limit }
+    requires fits { length (announcement (arc_value attrs.now) speech.mode (take 1 prefixes.now)) ≤ limit_octets speech.limit }
     ensures some { 0 < result.prefixes }
     ensures within { result.prefixes ≤ length prefixes.now }
-    ensures longest { IsLongestFront (announcement attrs.now speech.mode) (limit_octets speech.limit) prefixes.now result.prefixes }
-    ensures octets { take result.octets out.new.items ≡ announcement attrs.now speech.mode (take result.prefixes prefixes.now) }
+    ensures longest { IsLongestFront (announcement (arc_value attrs.now) speech.mode) (limit_octets speech.limit) prefixes.now result.prefixes }
+    ensures octets { take result.octets out.new.items ≡ announcement (arc_value attrs.now) speech.mode (take result.prefixes prefixes.now) }
     ensures most { result.octets ≤ limit_octets speech.limit }
     ensures room { vec_len out.new ≡ vec_len out.old }
 {
-    pack_news(attrs, speech.mode, prefixes, speech.limit.octets(), out)
+    pack_news(
+        attrs,
+        speech.mode,
+        prefixes,
+        speech.limit.octets(),
+        out,
+        written,
+    )
 }
 
 /// Writes the withdrawal of what waits for one, and lists the slots.
@@ -149,19 +205,50 @@ fn put_gone(
     put_withdrawal(front, speech.limit, out)
 }
 
+/// Attributes are legal.
+fn are_legal(attrs: &Arc<Attrs>)
+    ensures { IsLegal (arc_value attrs.now) }
+{
+    attributes_are_legal(attrs);
+}
+
+/// Lists what waits for these attributes, as [`Waits::choose_announced`] does.
+fn choose_news(
+    rows: &Rows,
+    waits: &mut Waits,
+    attrs: &Arc<Attrs>,
+    most: usize,
+    chosen: &mut Vec<usize>,
+    front: &mut Vec<Prefix>,
+)
+    requires most { (most ≤ vec_capacity chosen.old) × (most ≤ vec_capacity front.old) }
+    requires backed { AreBacked rows.now.rows.items waits.old.slots.items }
+    requires chained { AreChained rows.now.rows.items (take waits.old.sorted waits.old.slots.items) waits.old.chains.items }
+    ensures chosen { vec_capacity chosen.new ≡ vec_capacity chosen.old }
+    ensures front { vec_capacity front.new ≡ vec_capacity front.old }
+    ensures are { AreChosen rows.now.rows.items waits.old.slots.items (Some (arc_value attrs.now)) chosen.new.items front.new.items }
+    ensures all { front.new.items ≡ take most (passing (shares rows.now.rows.items (arc_value attrs.now)) (rising waits.old.slots.items)) }
+    ensures slots { waits.new.slots.items ≡ waits.old.slots.items }
+    ensures chained { AreChained rows.now.rows.items (take waits.new.sorted waits.new.slots.items) waits.new.chains.items }
+    ensures capacity { vec_capacity waits.new.slots ≡ vec_capacity waits.old.slots }
+{
+    waits.choose_announced(rows, attrs, most, chosen, front);
+}
+
 /// Writes the announcement of what waits for these attributes, and lists the slots.
 fn put_news(
     rows: &Rows,
     waits: &mut Waits,
-    attrs: &Attrs,
+    attrs: &Arc<Attrs>,
     speech: Speech,
     chosen: &mut Vec<usize>,
     front: &mut Vec<Prefix>,
     out: &mut Vec<u8>,
+    written: &mut Written,
 ) -> Packed
     requires room { limit_octets speech.limit ≤ vec_len out.old }
     requires in_turn { NoneWithdrawn waits.old.slots.items }
-    requires some { IsLeastOf (WaitsFor rows.now.rows.items attrs.now) is_announced waits.old.slots.items }
+    requires some { IsLeastOf (WaitsFor rows.now.rows.items (arc_value attrs.now)) is_announced waits.old.slots.items }
     requires backed { AreBacked rows.now.rows.items waits.old.slots.items }
     requires chained { AreChained rows.now.rows.items (take waits.old.sorted waits.old.slots.items) waits.old.chains.items }
     requires fit { RowsFit speech rows.now.rows.items }
@@ -176,15 +263,22 @@ fn put_news(
     ensures update { MayUpdate speech rows.now.rows.items waits.old.slots.items chosen.new.items front.new.items out.new.items result }
 {
     // for the prover: they are legal
-    attributes_are_legal(attrs);
+    are_legal(attrs);
     let usual = usual_prefixes(speech.limit);
-    waits.choose_announced(rows, attrs, usual, chosen, front);
-    let packed = put_announcement(attrs, speech, front, out);
+    choose_news(rows, waits, attrs, usual, chosen, front);
+    let packed = put_announcement(attrs, speech, front, out, written);
     if packed.prefixes < usual {
         return packed;
     }
-    waits.choose_announced(rows, attrs, most_prefixes(speech.limit), chosen, front);
-    put_announcement(attrs, speech, front, out)
+    choose_news(
+        rows,
+        waits,
+        attrs,
+        most_prefixes(speech.limit),
+        chosen,
+        front,
+    );
+    put_announcement(attrs, speech, front, out, written)
 }
 
 /// Writes the next UPDATE, if something waits, and lists the slots of what it tells.
@@ -195,6 +289,7 @@ fn put_update(
     chosen: &mut Vec<usize>,
     front: &mut Vec<Prefix>,
     out: &mut Vec<u8>,
+    written: &mut Written,
 ) -> Packed
     requires room { limit_octets speech.limit ≤ vec_len out.old }
     requires backed { AreBacked rows.now.rows.items waits.old.slots.items }
@@ -219,12 +314,12 @@ fn put_update(
     let Some(row) = waits.row_for(rows, first) else {
         return NOTHING;
     };
-    put_news(rows, waits, row.attrs, speech, chosen, front, out)
+    put_news(rows, waits, row.attrs, speech, chosen, front, out, written)
 }
 
 impl Outlet {
     /// Begins the next message, if there is one. None is in flight.
-    pub(crate) fn begin_next(&mut self, ins: &AdjIns)
+    pub(crate) fn begin_next(&mut self, ins: &AdjIns, written: &mut Written)
         ensures rest { self.new ≡ record self.old { told = self.new.told; flight = self.new.flight; keepalive_due = self.new.keepalive_due; note = self.new.note; marked = self.new.marked; waits = self.new.waits } }
         ensures note { (note : Short) → self.old.note ≡ Some note → self.new ≡ record self.old { flight = note_octets note; note = None } }
         ensures keepalive { self.old.note ≡ None → self.old.keepalive_due ≡ true → self.new ≡ record self.old { flight = keepalive; keepalive_due = false } }
@@ -238,7 +333,7 @@ impl Outlet {
         } else if self.keepalive_due {
             self.begin_keepalive();
         } else if let Some(speech) = self.speech {
-            self.begin_update(speech, ins);
+            self.begin_update(speech, ins, written);
         }
     }
 
@@ -259,7 +354,7 @@ impl Outlet {
     }
 
     /// Begins the next UPDATE, if something waits.
-    fn begin_update(&mut self, speech: Speech, ins: &AdjIns)
+    fn begin_update(&mut self, speech: Speech, ins: &AdjIns, written: &mut Written)
         requires { self.old.speech ≡ Some speech }
         ensures begins { (spoken : Speech) → self.old.speech ≡ Some spoken → BeginsUpdate spoken self.old self.new }
         ensures rest { self.new ≡ record self.old { told = self.new.told; flight = self.new.flight; marked = self.new.marked; waits = self.new.waits } }
@@ -273,6 +368,7 @@ impl Outlet {
             &mut self.chosen,
             &mut self.front,
             &mut self.octets,
+            written,
         );
         self.start = 0;
         self.end = packed.octets;

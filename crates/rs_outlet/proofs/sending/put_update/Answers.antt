@@ -1,5 +1,6 @@
 use Rattle.std.proofs.Common.{◌≡◌, ◌∙◌, None, Some, List, length, ap, arith, inl, refl, subst, sym}
 use Rattle.std.specs.Prelude.{option_map}
+use Rattle.std.specs.Arc.{arc_value}
 use Rattle.std.proofs.lemmas.Option.{slice_get_within}
 use Rattle.std.specs.List.{HoldsAt}
 use Rattle.rs_rows.specs.Rows.{Row}
@@ -48,10 +49,11 @@ put_news-requires-clause-some c =
     let ws = c.args.waits.now.slots.items in
     let rows = c.args.rows.now.rows.items in
     let n = c.in-Some-first_announced.first in
+    let said = arc_value c.in-Some-row_for.row.attrs.now in
     let same = c.first_announced.ensures.slots ∙ c.first_withdrawn.ensures.slots in
     let found : IsLeast is_announced ws (Some n) = subst (λ (xs : List Wait). IsLeast is_announced xs (Some n)) c.first_withdrawn.ensures.slots c.in-Some-first_announced.ensures.first in
     let at = read_holds (λ (w : Wait). option_map lent_row c.row_for.result ≡ row_by rows w.due) ws n found.0 found.1
     (subst (λ (xs : List Wait). HoldsAt (λ (w : Wait). option_map lent_row c.row_for.result ≡ row_by rows w.due) xs n) same c.row_for.ensures) in
-    let value : option_map (λ (r : Row). r.attributes) (option_map lent_row c.row_for.result) ≡ Some c.deref.result.now = ap (λ o. option_map (λ (r : Row). r.attributes) (option_map lent_row o)) c.in-Some-row_for.is ∙ ap (λ m. Some m) (sym c.deref.ensures) in
-    subst (λ (xs : List Wait). IsLeastOf (WaitsFor rows c.deref.result.now) is_announced xs) (sym same)
-    (n, found.0, found.1, first_waits rows ws n found.0 c.args.waits.now.apart c.requires.backed found.1 found.2 c.deref.result.now (sym (ap (option_map (λ (r : Row). r.attributes)) at) ∙ value), found.2, found.3)
+    let value : option_map (λ (r : Row). r.attributes) (option_map lent_row c.row_for.result) ≡ Some said = ap (λ o. option_map (λ (r : Row). r.attributes) (option_map lent_row o)) c.in-Some-row_for.is in
+    subst (λ (xs : List Wait). IsLeastOf (WaitsFor rows said) is_announced xs) (sym same)
+    (n, found.0, found.1, first_waits rows ws n found.0 c.args.waits.now.apart c.requires.backed found.1 found.2 said (sym (ap (option_map (λ (r : Row). r.attributes)) at) ∙ value), found.2, found.3)

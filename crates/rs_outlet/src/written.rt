@@ -1,0 +1,182 @@
+//! The messages that were written last, for the clients that are told next: most are told of the same prefixes with the
+//! same attributes, so that the same octets are sent to each.
+//!
+//! A message stands at a place by the hash of its attributes, where a later one takes its place. It is there only to save
+//! time: whatever stands there, a client is sent what it would be without.
+
+ghost use Rattle.std.specs.Prelude.{◌≡◌, ◌<◌, ◌≤◌, length, take, option_map, IfSome, IfNone, IsTrue};
+ghost use Rattle.std.specs.Arc.{arc_value};
+ghost use Rattle.rs_packer.specs.Packed.{announcement, IsLongestFront};
+ghost use Rattle.rs_outlet.specs.Message.Written.{written_of};
+
+use rs_attrs::{Attrs, Mode};
+use rs_octets::{Prefix, put};
+use rs_packer::Packed;
+use std::alloc::{AllocError, Global};
+use std::marker::Model;
+use std::sync::Arc;
+
+/// How many messages are kept.
+const PLACES: usize = 1024;
+
+/// A message of more octets than these is not kept.
+const MOST_OCTETS: usize = 256;
+
+/// Nor is one of more prefixes than these.
+const MOST_PREFIXES: usize = 16;
+
+/// A message that announces these prefixes with these attributes; none where there are no attributes.
+#[derive(Drop)]
+struct Message {
+    attrs: Option<Arc<Attrs>>,
+    mode: Mode,
+    prefixes: Vec<Prefix>,
+    octets: Vec<u8>,
+    ghost written: { octets.items ≡ written_of (option_map arc_value attrs) mode prefixes.items },
+}
+
+/// The messages that were written last.
+#[derive(Drop)]
+pub struct Written {
+    messages: Vec<Message>,
+}
+
+/// Whether these are the same prefixes.
+fn are_same(some: &[Prefix], others: &[Prefix]) -> bool
+    ensures { IsTrue result → some.now ≡ others.now }
+{
+    if some.len() != others.len() {
+        return false;
+    }
+    for place in 0..some.len() {
+        if some[place] != others[place] {
+            return false;
+        }
+    }
+    true
+}
+
+/// Whether these are equal attributes.
+fn are_equal(some: &Attrs, others: &Attrs) -> bool
+    ensures { IsTrue result → some.now ≡ others.now }
+{
+    some == others
+}
+
+/// Whether these are one mode.
+fn is_one_mode(some: Mode, other: Mode) -> bool
+    ensures { IsTrue result → some ≡ other }
+{
+    some == other
+}
+
+impl Message {
+    /// No message, and room for one.
+    fn none(alloc: Global) -> Result<Message, AllocError> {
+        Ok(Message {
+            attrs: None,
+            mode: Mode::Four,
+            prefixes: Vec::with_capacity(alloc, MOST_PREFIXES)?,
+            octets: Vec::with_capacity(alloc, MOST_OCTETS)?,
+        })
+    }
+
+    /// Its octets, if it announces these prefixes with these attributes, spelt so.
+    fn octets_for(&self, attrs: &Arc<Attrs>, mode: Mode, prefixes: &[Prefix]) -> Option<&[u8]>
+        ensures { IfSome result (λ octets. octets.now ≡ announcement (arc_value attrs.now) mode prefixes.now) }
+    {
+        let Some(own) = &self.attrs else {
+            return None;
+        };
+        if is_one_mode(self.mode, mode)
+            && are_equal(own, attrs)
+            && are_same(&self.prefixes, prefixes)
+        {
+            return Some(&self.octets);
+        }
+        None
+    }
+
+    /// Keeps a message in place of what was there, if it is short.
+    fn keep(&mut self, attrs: &Arc<Attrs>, mode: Mode, prefixes: &[Prefix], octets: &[u8])
+        requires { octets.now ≡ announcement (arc_value attrs.now) mode prefixes.now }
+    {
+        self.attrs = None;
+        self.octets.clear();
+        if self.prefixes.capacity() < prefixes.len() || self.octets.capacity() < octets.len() {
+            return;
+        }
+        let Ok(own) = attrs.clone() else {
+            return;
+        };
+        self.prefixes.clear();
+        let Ok(()) = self.prefixes.extend_from_slice(prefixes) else {
+            return;
+        };
+        let Ok(()) = self.octets.extend_from_slice(octets) else {
+            return;
+        };
+        self.mode = mode;
+        self.attrs = Some(own);
+    }
+}
+
+/// The place of a message with these attributes.
+fn place_of(attrs: &Attrs) -> usize {
+    attrs.kept_hash() as usize % PLACES
+}
+
+impl Written {
+    /// No message was written yet.
+    pub fn new(alloc: Global) -> Result<Written, AllocError> {
+        let mut messages = Vec::with_capacity(alloc, PLACES)?;
+        for _ in 0..PLACES {
+            messages.push(Message::none(alloc)?)?;
+        }
+        Ok(Written { messages })
+    }
+
+    /// Writes the message that announces all these prefixes with these attributes, if it was written before and fits.
+    pub(crate) fn repeat(
+        &self,
+        attrs: &Arc<Attrs>,
+        mode: Mode,
+        prefixes: &[Prefix],
+        limit: usize,
+        out: &mut [u8],
+    ) -> Option<Packed>
+        requires some { 0 < length prefixes.now }
+        requires room { limit ≤ length out.old }
+        ensures some { IfSome result (λ packed. packed.prefixes ≡ length prefixes.now) }
+        ensures longest { IfSome result (λ packed. IsLongestFront (announcement (arc_value attrs.now) mode) limit prefixes.now packed.prefixes) }
+        ensures octets { IfSome result (λ packed. take packed.octets out.new ≡ announcement (arc_value attrs.now) mode (take packed.prefixes prefixes.now)) }
+        ensures most { IfSome result (λ packed. packed.octets ≤ limit) }
+        ensures none { IfNone result (out.new ≡ out.old) }
+        ensures len { length out.new ≡ length out.old }
+    {
+        let message = self.messages.get(place_of(attrs))?;
+        let octets = message.octets_for(attrs, mode, prefixes)?;
+        if limit < octets.len() {
+            return None;
+        }
+        Some(Packed {
+            octets: put(out, 0, octets),
+            prefixes: prefixes.len(),
+        })
+    }
+
+    /// Keeps the message that announces these prefixes with these attributes.
+    pub(crate) fn keep(
+        &mut self,
+        attrs: &Arc<Attrs>,
+        mode: Mode,
+        prefixes: &[Prefix],
+        octets: &[u8],
+    )
+        requires { octets.now ≡ announcement (arc_value attrs.now) mode prefixes.now }
+    {
+        if let Some(message) = self.messages.get_mut(place_of(attrs)) {
+            message.keep(attrs, mode, prefixes, octets);
+        }
+    }
+}
