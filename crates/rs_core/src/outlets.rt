@@ -82,7 +82,7 @@ impl Ribs {
         ensures kept { KeepsFresh self.old self.new }
     {
         let outlet = &mut self.outlets[c];
-        outlet.begin(&self.tables);
+        outlet.begin(&self.tables, &mut self.written);
     }
 
     /// The link of a client took the first octets of what is lent.

@@ -12,7 +12,7 @@ ghost use Rattle.rs_core.specs.Run.Keeping.{AreKept, AreBare};
 
 use crate::adj_rib_in::Dropped;
 use rs_adjin::AdjIns;
-use rs_outlet::Outlet;
+use rs_outlet::{Outlet, Written};
 use rs_policy::Config;
 use std::alloc::{AllocError, Global};
 
@@ -30,6 +30,8 @@ pub(crate) struct Ribs {
     pub(crate) outlets: Vec<Outlet>,
     /// The number of the prefix that is swept next.
     pub(crate) swept: u32,
+    /// The messages that were written last.
+    pub(crate) written: Written,
     ghost clients_len: { length config.clients ≡ count },
     ghost tables_len: { adj_ins.client_count tables ≡ count },
     ghost outlets_len: { length outlets.items ≡ count },
@@ -77,6 +79,7 @@ impl Ribs {
             dropped,
             outlets,
             swept: 0,
+            written: Written::new(alloc)?,
         })
     }
 }

@@ -17,7 +17,7 @@ use rs_adjin::AdjIns;
 use rs_attrs::{Attrs, Mode};
 use rs_octets::Prefix;
 use rs_open::Limit;
-use rs_outlet::{Choices, Last, Outlet, Turned};
+use rs_outlet::{Choices, Last, Outlet, Turned, Written};
 use rs_policy::{Config, import_note};
 use std::alloc::{AllocError, Global};
 use std::ops::Range;
@@ -72,6 +72,7 @@ struct Exchange {
     alloc: Global,
     config: Config,
     tables: AdjIns,
+    written: Written,
     ghost noted: { AreNoted (note_of_import config) tables },
 }
 
@@ -84,7 +85,13 @@ impl Exchange {
             alloc,
             config,
             tables,
+            written: Written::new(alloc).expect(rt, "room for messages"),
         }
+    }
+
+    /// The messages that were written last, which own their attributes, are forgotten.
+    fn forget_written(&mut self, rt: &impl Abort) {
+        self.written = Written::new(self.alloc).expect(rt, "room for messages");
     }
 
     /// Two members, of which the sender announces so many prefixes, by two sets of attributes.
@@ -146,10 +153,10 @@ impl Exchange {
 fn let_go(_exchange: Exchange, _outlet: Outlet) {}
 
 /// Takes all messages that wait, and answers their octets.
-fn drain(rt: &impl Abort, exchange: &Exchange, outlet: &mut Outlet) -> Vec<u8> {
+fn drain(rt: &impl Abort, exchange: &mut Exchange, outlet: &mut Outlet) -> Vec<u8> {
     let mut taken = Vec::new(exchange.alloc);
     for _ in 0..1_000u32 {
-        outlet.begin(&exchange.tables);
+        outlet.begin(&exchange.tables, &mut exchange.written);
         put(rt, &mut taken, outlet.lent());
         let count = outlet.lent().len();
         outlet.took(count);

@@ -7,7 +7,7 @@ use crate::common::{ROUTE, equals, is_of, is_so, prefix, shared, text_of};
 use rs_adjin::AdjIns;
 use rs_attrs::{Attrs, Mode};
 use rs_open::Limit;
-use rs_outlet::{Last, Outlet, Turned, note_all};
+use rs_outlet::{Last, Outlet, Turned, Written, note_all};
 use rs_policy::Config;
 use rs_workers::{Free, Gate, turn_all};
 use std::alloc::{AllocError, Global};
@@ -198,10 +198,18 @@ fn have_decided(rt: &impl Abort, all: &[Outlet], count: usize, decided: usize) {
 }
 
 /// Two outlets send the same messages, until both are drained.
-fn send_the_same(rt: &impl Abort, tables: &AdjIns, one: &mut Outlet, other: &mut Outlet) {
+fn send_the_same(
+    rt: &impl Abort,
+    alloc: Global,
+    tables: &AdjIns,
+    one: &mut Outlet,
+    other: &mut Outlet,
+) {
+    let mut of_one = Written::new(alloc).expect(rt, "room for messages");
+    let mut of_other = Written::new(alloc).expect(rt, "room for messages");
     for _ in 0..100_000u32 {
-        one.begin(tables);
-        other.begin(tables);
+        one.begin(tables, &mut of_one);
+        other.begin(tables, &mut of_other);
         is_so(rt, one.lent() == other.lent(), "the same message");
         let count = one.lent().len();
         one.took(count);
@@ -284,7 +292,7 @@ fn is_the_same<R: Threads + Wait + Sync + Abort>(rt: &R, exchange: &mut Exchange
     have_decided(rt, &all, 7, 10_000);
     for (one, other) in alone.iter_mut().zip(all.iter_mut()) {
         equals(rt, one.last(), other.last());
-        send_the_same(rt, &exchange.tables, one, other);
+        send_the_same(rt, exchange.alloc, &exchange.tables, one, other);
     }
 }
 

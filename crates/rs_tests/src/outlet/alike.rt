@@ -196,8 +196,9 @@ fn what_two_were_told_is_there_once(rt: HostRuntime) {
     drop(choices);
     share_rows(&mut first, &mut alike);
     let told = owner(&rt, &exchange, &first);
-    drain(&rt, &exchange, &mut first);
-    drain(&rt, &exchange, &mut alike);
+    drain(&rt, &mut exchange, &mut first);
+    drain(&rt, &mut exchange, &mut alike);
+    exchange.forget_written(&rt);
     let count = u32::from(SETS) * 2;
     exchange.touch(&rt, &mut first, 0..count, 1);
     exchange.touch(&rt, &mut alike, 0..count, 1);
@@ -206,8 +207,8 @@ fn what_two_were_told_is_there_once(rt: HostRuntime) {
     exchange.decides(&rt, &mut alike, some(count as usize));
     share_rows(&mut first, &mut alike);
     equals(&rt, Arc::strong_count(&told), 3);
-    drain(&rt, &exchange, &mut first);
-    drain(&rt, &exchange, &mut alike);
+    drain(&rt, &mut exchange, &mut first);
+    drain(&rt, &mut exchange, &mut alike);
     equals(&rt, Arc::strong_count(&told), 1);
     drop(alike);
     let_go(exchange, first);

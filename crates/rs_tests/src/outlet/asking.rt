@@ -10,13 +10,13 @@ use std::process::Abort;
 use std::sync::Arc;
 
 /// Takes the octets of one message.
-fn take(exchange: &Exchange, outlet: &mut Outlet) {
-    outlet.fill(&exchange.tables);
+fn take(exchange: &mut Exchange, outlet: &mut Outlet) {
+    outlet.fill(&exchange.tables, &mut exchange.written);
     outlet.took(outlet.lent().len());
 }
 
 /// Takes all that waits, and no more than 1,000 messages.
-fn take_all(exchange: &Exchange, outlet: &mut Outlet) {
+fn take_all(exchange: &mut Exchange, outlet: &mut Outlet) {
     for _ in 0..1_000u32 {
         take(exchange, outlet);
     }
@@ -24,8 +24,8 @@ fn take_all(exchange: &Exchange, outlet: &mut Outlet) {
 
 /// An exchange of so many routes, and the outlet of a client that was told all, in scattered order.
 fn told(rt: &impl Abort, alloc: Global, count: u32) -> (Exchange, Outlet) {
-    let (exchange, mut outlet) = decided(rt, alloc, count);
-    drain(rt, &exchange, &mut outlet);
+    let (mut exchange, mut outlet) = decided(rt, alloc, count);
+    drain(rt, &mut exchange, &mut outlet);
     (exchange, outlet)
 }
 
@@ -35,9 +35,9 @@ fn a_message_behind_two_turns(rt: HostRuntime) {
     change(&rt, &mut exchange, &mut outlet, 0..30);
     change(&rt, &mut exchange, &mut outlet, 30..60);
     from_here(&rt);
-    outlet.begin(&exchange.tables);
+    outlet.begin(&exchange.tables, &mut exchange.written);
     to_here(&rt);
-    take(&exchange, &mut outlet);
+    take(&mut exchange, &mut outlet);
     is_drained(&rt, &outlet);
     let_go(exchange, outlet);
 }
@@ -50,7 +50,7 @@ fn messages_of_a_client_that_takes_one_behind_each_turn(rt: HostRuntime) {
         let first = turn * 1_500;
         change(&rt, &mut exchange, &mut outlet, first..first + 1_500);
         from_here(&rt);
-        take(&exchange, &mut outlet);
+        take(&mut exchange, &mut outlet);
         to_here(&rt);
     }
     let_go(exchange, outlet);
@@ -64,7 +64,7 @@ fn a_message_of_a_client_that_took_none(rt: HostRuntime) {
         change(&rt, &mut exchange, &mut outlet, first..first + 1_000);
     }
     from_here(&rt);
-    take_all(&exchange, &mut outlet);
+    take_all(&mut exchange, &mut outlet);
     to_here(&rt);
     is_drained(&rt, &outlet);
     let_go(exchange, outlet);
@@ -75,13 +75,13 @@ fn all_again(rt: HostRuntime) {
     let (mut exchange, mut outlet) = told(&rt, rt.alloc(), 3_000);
     from_here(&rt);
     outlet.again();
-    take(&exchange, &mut outlet);
+    take(&mut exchange, &mut outlet);
     outlet.again();
     to_here(&rt);
     change(&rt, &mut exchange, &mut outlet, 500..1_000);
     from_here(&rt);
     outlet.again();
-    take_all(&exchange, &mut outlet);
+    take_all(&mut exchange, &mut outlet);
     to_here(&rt);
     is_drained(&rt, &outlet);
     let_go(exchange, outlet);
@@ -89,15 +89,15 @@ fn all_again(rt: HostRuntime) {
 
 #[test]
 fn touches_and_the_end_of_a_session(rt: HostRuntime) {
-    let (exchange, mut outlet) = told(&rt, rt.alloc(), 3_000);
+    let (mut exchange, mut outlet) = told(&rt, rt.alloc(), 3_000);
     from_here(&rt);
     outlet.say_keepalive();
-    take(&exchange, &mut outlet);
+    take(&mut exchange, &mut outlet);
     exchange.touch(&rt, &mut outlet, 0..3_000, 1);
     exchange.touch(&rt, &mut outlet, 0..3_000, 1);
     outlet.touch_all();
     outlet.finish(Some(Short::Keepalive));
-    take(&exchange, &mut outlet);
+    take(&mut exchange, &mut outlet);
     outlet.clear();
     to_here(&rt);
     let_go(exchange, outlet);

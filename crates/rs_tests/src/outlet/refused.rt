@@ -30,12 +30,12 @@ fn withdraw(rt: &impl Abort, exchange: &mut Exchange, first: u32) {
 
 /// An outlet that told some of what was due at its first turn; the rest waits. 500 prefixes are
 /// touched: some were withdrawn since, some are due as before, and some are new.
-fn half_told(rt: &impl Abort, before: &Exchange, now: &Exchange) -> Outlet {
+fn half_told(rt: &impl Abort, before: &mut Exchange, now: &Exchange) -> Outlet {
     let mut outlet = before.outlet(rt);
     before.decides(rt, &mut outlet, all(600));
-    outlet.begin(&before.tables);
+    outlet.begin(&before.tables, &mut before.written);
     outlet.took(outlet.lent().len());
-    outlet.begin(&before.tables);
+    outlet.begin(&before.tables, &mut before.written);
     now.touch(rt, &mut outlet, BEFORE - 200..BEFORE + 300, 1);
     outlet
 }
@@ -50,7 +50,7 @@ fn listed(rt: &impl Abort, exchange: &Exchange, outlet: &Outlet) -> Vec<Prefix> 
 }
 
 /// Two outlets have answered the same, and have and tell the same routes.
-fn are_alike(rt: &impl Abort, exchange: &Exchange, one: &mut Outlet, other: &mut Outlet) {
+fn are_alike(rt: &impl Abort, exchange: &mut Exchange, one: &mut Outlet, other: &mut Outlet) {
     equals(rt, one.last(), other.last());
     let of_one = listed(rt, exchange, one);
     let of_other = listed(rt, exchange, other);
@@ -62,11 +62,11 @@ fn are_alike(rt: &impl Abort, exchange: &Exchange, one: &mut Outlet, other: &mut
 
 #[test]
 fn a_refused_turn_changes_nothing_but_last(rt: HostRuntime) {
-    let before = Exchange::with_routes(&rt, rt.alloc(), BEFORE);
+    let mut before = Exchange::with_routes(&rt, rt.alloc(), BEFORE);
     let mut now = Exchange::with_routes(&rt, rt.alloc(), NOW);
     withdraw(&rt, &mut now, BEFORE - 200);
-    let mut other = half_told(&rt, &before, &now);
-    let mut outlet = half_told(&rt, &before, &now);
+    let mut other = half_told(&rt, &mut before, &now);
+    let mut outlet = half_told(&rt, &mut before, &now);
     let routes = listed(&rt, &now, &outlet);
     now.decides(&rt, &mut other, some(500));
     if now.turn(&rt, &mut outlet).is_err() {
@@ -76,7 +76,7 @@ fn a_refused_turn_changes_nothing_but_last(rt: HostRuntime) {
         equals(&rt, outlet.lent(), other.lent());
         now.decides(&rt, &mut outlet, some(500));
     }
-    are_alike(&rt, &now, &mut outlet, &mut other);
+    are_alike(&rt, &mut now, &mut outlet, &mut other);
     let_go(before, other);
     let_go(now, outlet);
 }

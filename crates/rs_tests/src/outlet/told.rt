@@ -20,7 +20,7 @@ static LENGTHS: [(Mode, Limit, usize); 4] = [
 ];
 
 /// A client is told so many octets in its first turn.
-fn is_told(rt: &impl Abort, exchange: &Exchange, (mode, limit, want): (Mode, Limit, usize)) {
+fn is_told(rt: &impl Abort, exchange: &mut Exchange, (mode, limit, want): (Mode, Limit, usize)) {
     let mut outlet = Outlet::new(exchange.alloc, CLIENT, true).expect(rt, "an outlet");
     outlet.up(mode, limit);
     exchange.turn(rt, &mut outlet).expect(rt, "a turn");
@@ -30,9 +30,9 @@ fn is_told(rt: &impl Abort, exchange: &Exchange, (mode, limit, want): (Mode, Lim
 
 #[test]
 fn messages_are_as_long_as_the_client_takes(rt: HostRuntime) {
-    let exchange = Exchange::with_routes(&rt, rt.alloc(), 3_000);
+    let mut exchange = Exchange::with_routes(&rt, rt.alloc(), 3_000);
     for row in &LENGTHS {
-        is_told(&rt, &exchange, *row);
+        is_told(&rt, &mut exchange, *row);
     }
 }
 
@@ -43,7 +43,7 @@ fn turns_go_on_while_100_000_wait(rt: HostRuntime) {
     change(&rt, &mut exchange, &mut outlet, 1_000..2_000);
     // Each prefix is told once, as it is due at last: 49,000 of each of the first two sets in 49
     // messages, and the 2,000 that changed in two.
-    let told = drain(&rt, &exchange, &mut outlet);
+    let told = drain(&rt, &mut exchange, &mut outlet);
     is_of(&rt, told.len(), 400_000 + (49 + 49 + 2) * 43, &"all");
     is_drained(&rt, &outlet);
     let_go(exchange, outlet);
