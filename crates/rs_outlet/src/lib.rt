@@ -14,7 +14,7 @@
 //!   `waiting`, what is to be sent: slots in two `parts`, of which `merging` makes one. `marking` makes all that was
 //!   told wait again.
 //! - `choosing` says which slots the next UPDATE is about, going along the `chains` of slots with the
-//!   same attributes; `sending` and `fill` begin the next message.
+//!   same attributes; `sending` and `fill` begin the next message, which may have been `written` for another client.
 //! - `sharing` lets outlets that are due the same have one copy of their rows.
 //! - `noting` has routes noted by the import lists of a configuration, as a turn wants them.
 //! - `routes` shows the Loc-RIB; `laws` are contracts of functions that do nothing.

@@ -192,6 +192,7 @@ impl Outlet {
     /// What is due at this prefix, which has this number, is decided anew at the next turn. Where
     /// there is no room for it, everything is. So many are touched `together`: where these are more than
     /// half of all prefixes, the list does not grow, and all may be stale once it is full.
+    #[inline(always)]
     pub fn touch(&mut self, number: u32, prefix: Prefix, together: usize)
         ensures client { self.new.client ≡ self.old.client }
         ensures extended { self.new.extended ≡ self.old.extended }

@@ -71,6 +71,7 @@ impl Touched {
 
     /// Adds a prefix, which has this number. Where more than 4,096 are listed, no more than `most`
     /// are: else all may be stale, as where memory is refused.
+    #[inline(always)]
     pub(crate) fn add(&mut self, number: u32, prefix: Prefix, most: usize)
         ensures touched { (ins : AdjIns) → HaveNumbers self.old.prefixes.items ins → touched_of self.new.all self.new.prefixes.items ≡ with_touch (touched_of self.old.all self.old.prefixes.items) prefix }
         ensures stale { (ins : AdjIns) → HaveNumbers self.old.prefixes.items ins → MayAdd prefix (stale_of self.old.all self.old.prefixes.items) (stale_of self.new.all self.new.prefixes.items) }
@@ -83,17 +84,29 @@ impl Touched {
         self.prefixes.push_reserved((number, prefix));
     }
 
-    /// Puts a full list in order, and makes room where it is long still.
+    /// Makes room for one more, if there is none.
+    #[inline(always)]
     fn make_room(&mut self, most: usize)
         ensures room { vec_len self.new.prefixes < vec_capacity self.new.prefixes }
         ensures touched { (ins : AdjIns) → HaveNumbers self.old.prefixes.items ins → touched_of self.new.all self.new.prefixes.items ≡ touched_of self.old.all self.old.prefixes.items }
         ensures stale { (ins : AdjIns) → HaveNumbers self.old.prefixes.items ins → (stale_of self.new.all self.new.prefixes.items ≡ stale_of self.old.all self.old.prefixes.items) ⊎ (stale_of self.new.all self.new.prefixes.items ≡ None) }
         ensures numbered { (ins : AdjIns) → HaveNumbers self.old.prefixes.items ins → HaveNumbers self.new.prefixes.items ins }
     {
-        let capacity = self.prefixes.capacity();
-        if self.prefixes.len() < capacity {
+        if self.prefixes.len() < self.prefixes.capacity() {
             return;
         }
+        self.make_more_room(most);
+    }
+
+    /// Puts a full list in order, and makes room where it is long still.
+    #[inline(never)]
+    fn make_more_room(&mut self, most: usize)
+        ensures room { vec_len self.new.prefixes < vec_capacity self.new.prefixes }
+        ensures touched { (ins : AdjIns) → HaveNumbers self.old.prefixes.items ins → touched_of self.new.all self.new.prefixes.items ≡ touched_of self.old.all self.old.prefixes.items }
+        ensures stale { (ins : AdjIns) → HaveNumbers self.old.prefixes.items ins → (stale_of self.new.all self.new.prefixes.items ≡ stale_of self.old.all self.old.prefixes.items) ⊎ (stale_of self.new.all self.new.prefixes.items ≡ None) }
+        ensures numbered { (ins : AdjIns) → HaveNumbers self.old.prefixes.items ins → HaveNumbers self.new.prefixes.items ins }
+    {
+        let capacity = self.prefixes.capacity();
         put_in_order(&mut self.prefixes);
         if self.prefixes.len() > capacity / 5 * 4 {
             self.lengthen(most);

@@ -4,7 +4,7 @@
 //!
 //! Before the first message one part is made of both. From the second message on, or from the first where the client
 //! took all that waited before, once nothing is to be withdrawn, each slot of the first part that is to be announced is
-//! chained to the next one that may have the same attributes (`chains`). A message is read off along such a chain and slot
+//! chained to the next one that may have the same attributes (`chains`, `linking`). A message is read off along such a chain and slot
 //! by slot in the late part, the lesser prefix first. `sorting` is how new slots come into order, for several outlets.
 
 ghost use Rattle.std.specs.Prelude.{List, ◌≡◌, ◌≤◌, ◌<◌, ◌+◌, ℕ, Option, None, Some, [], true, false, drop, length, take, vec_len, slice_get, slice_set, option_map, if◌then◌else◌, IfSome, IsTrue, OnOk, ◌++◌};
