@@ -2,6 +2,7 @@
 pub mod Deduped
 pub mod Chains
 pub mod Linking
+pub mod NoneOpen
 pub mod Slots
 pub mod Withdrawals
 pub mod Finding

@@ -211,6 +211,9 @@ impl Waits {
         ensures withdrawn { withdrawn_count self.new.slots.items ≤ withdrawn_count self.old.slots.items }
         ensures capacity { vec_capacity self.new.slots ≡ vec_capacity self.old.slots }
     {
+        if self.slots.is_empty() {
+            return (was_due, false);
+        }
         match self.find(prefix) {
             None => (was_due, false),
             Some(slot) => {

@@ -5,7 +5,7 @@ ghost use Rattle.std.specs.Prelude.{◌≡◌, ◌≤◌, ◌+◌, ◌++◌, [],
 ghost use Rattle.std.specs.List.Sorted.{IsStrictlySortedBy};
 ghost use Rattle.std.specs.Vec.{vec_capacity};
 ghost use Rattle.rs_octets.specs.Prefixes.{Prefix, prefix_order};
-ghost use Rattle.rs_outlet.specs.Pending.Slots.{AreFresh, open_at, open_count, prefixes_at, withdrawn_count};
+ghost use Rattle.rs_outlet.specs.Pending.Slots.{AreFresh, open_at, open_count, prefixes_at, still_open, withdrawn_count};
 ghost use Rattle.rs_outlet.specs.Inside.{AreBacked, AreChained};
 ghost use Rattle.rs_rows.specs.Rows.{Row};
 
@@ -34,6 +34,19 @@ fn renew<T: Drop>(alloc: Global, room: &mut Vec<T>)
     if let Ok(fresh) = Vec::with_capacity(alloc, room.capacity()) {
         *room = fresh;
     }
+}
+
+/// Drops the slots that wait no more, where so many wait.
+fn keep_open(slots: &mut Vec<Wait>, waiting: usize)
+    requires { open_count slots.old.items ≡ waiting }
+    ensures items { slots.new.items ≡ still_open slots.old.items }
+    ensures capacity { vec_capacity slots.new ≡ vec_capacity slots.old }
+{
+    if waiting == 0 {
+        slots.clear();
+        return;
+    }
+    drop_shut(slots);
 }
 
 impl Waits {
@@ -152,7 +165,7 @@ impl Waits {
         ensures capacity { vec_capacity self.new.slots ≡ vec_capacity self.old.slots }
         ensures chains { self.new.chains.items ≡ [] }
     {
-        drop_shut(&mut self.slots);
+        keep_open(&mut self.slots, self.waiting);
         sort_from(buffers, &mut self.slots, 0);
         self.sorted = self.slots.len();
         self.ready = false;
