@@ -1,5 +1,5 @@
 -- The table by which slots are chained: what stands at the place of a hash, and what stays there.
-use Rattle.std.proofs.Common.{◌≡◌, ◌≢◌, ◌<◌, ◌≤◌, ◌-◌, ◌==◌, ◌||◌, ℕ, zero, suc, Bool, true, false, cond, Option, None, Some, List, [], ◌∷◌, length, replicate, slice_set, refl, sym, ap, ◌∙◌, subst, arith, inl, inr}
+use Rattle.std.proofs.Common.{◌≡◌, ◌≢◌, ◌<◌, ◌≤◌, ◌-◌, ◌==◌, ℕ, zero, suc, Bool, true, false, cond, Option, None, Some, List, [], ◌∷◌, length, replicate, slice_set, refl, sym, ap, ◌∙◌, arith, inl, inr}
 use Rattle.std.specs.Prelude.{slice_get, bit_and}
 use Rattle.std.proofs.lemmas.Bool.{cases_eq}
 use Rattle.std.proofs.lemmas.Bool.Decides.{nat_tests}
@@ -8,7 +8,7 @@ use Rattle.rs_adjin.proofs.TableRows.{set_apart, set_here}
 use Rattle.rs_rows.specs.Rows.{Row}
 use Rattle.rs_outlet.specs.declared.waiting.Wait.{Wait}
 use Rattle.rs_outlet.specs.declared.waiting.chains.Keyed.{Keyed}
-use Rattle.rs_outlet.specs.Inside.{AreChained, shown, row_by}
+use Rattle.rs_outlet.specs.Inside.{AreChained}
 use Rattle.rs_outlet.specs.Pending.Slots.{AreByHash, hash_of}
 use Rattle.rs_outlet.specs.Pending.Linking.{AreMet, IsMet, is_for, next_in, no_slot, place_by, place_from, place_of}
 
@@ -171,9 +171,9 @@ module _ (ws : List Wait) (slot hash p : ℕ) (w : Wait) (table : List Keyed) (e
         let other_is : other ≡ hash = same_Some other hash (sym z_hash ∙ ap (λ (v : Wait). hash_of v.due) z_is ∙ w_hash) in
         now other other_is m (omega (arith, is, same))
     | inr ne ↦ elim (cases_eq other hash) [
-        | inl same ↦ now other same m (omega (arith, is, least))
-        | inr apart ↦ before other m apart (are m other z at (omega (arith, least, ne)) opened z_hash)
-      ]
+      | inl same ↦ now other same m (omega (arith, is, least))
+      | inr apart ↦ before other m apart (are m other z at (omega (arith, least, ne)) opened z_hash)
+    ]
   ]
     where
       put : (other q : ℕ) (f : Keyed) → slice_get table q ≡ Some f → (other ≢ hash → (f.key ≡ other) × ((f.slot == no_slot) ≡ false)) → place_of table other ≡ Some q → place_of (slice_set table p x) other ≡ Some q

@@ -6,7 +6,7 @@ use Rattle.std.proofs.lemmas.Option.{slice_get_read}
 use Rattle.rs_outlet.specs.declared.waiting.Wait.{Wait}
 use Rattle.rs_outlet.specs.declared.waiting.chains.Keyed.{Keyed}
 use Rattle.rs_outlet.specs.Pending.Slots.{hash_of}
-use Rattle.rs_outlet.specs.Pending.Linking.{no_slot, place_of}
+use Rattle.rs_outlet.specs.Pending.Linking.{no_slot}
 use Rattle.rs_outlet.proofs.Pending.Linking.{by_hash_more, met_more}
 use Rattle.rs_outlet.proofs.waiting.linking.link.Goals as goal
 

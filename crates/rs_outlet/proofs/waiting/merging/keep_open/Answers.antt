@@ -1,4 +1,4 @@
-use Rattle.std.proofs.Common.{◌≡◌, ◌∙◌, [], ap, sym}
+use Rattle.std.proofs.Common.{◌∙◌, sym}
 use Rattle.rs_outlet.proofs.Pending.NoneOpen.{none_still}
 use Rattle.rs_outlet.proofs.waiting.merging.keep_open.Goals as goal
 
