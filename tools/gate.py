@@ -54,7 +54,7 @@ HOSTILE = "abcdegn"
 PAUSE = 2
 TICK = os.sysconf("SC_CLK_TCK")
 # What `rt ci` says of a crate, a test or an edit that failed.
-FAILED = re.compile(r"^rt: .*(fail|not proved|no answer|refus)|FAILED|no-answer")
+FAILED = re.compile(r"FAILED|NOT PROVED|NOT REFUSED|BAD EDIT|no-answer|not in the layout")
 # So many lines on what failed stand above the last line.
 MOST_TOLD = 12
 KINDS = ("proofs", "tests")
