@@ -217,7 +217,6 @@ fn if_fits<'a>(speech: Speech, prefix: &Prefix, passed: Passed<'a>) -> Option<Pa
 }
 
 /// The route as it is passed on, where it fits.
-#[inline(always)]
 fn pass_fitting<'a>(
     sources: &Sources<'a>,
     speech: Speech,
