@@ -152,11 +152,16 @@ impl Exchange {
 /// of their lists.
 fn let_go(_exchange: Exchange, _outlet: Outlet) {}
 
+/// Begins the next message.
+fn begin(exchange: &mut Exchange, outlet: &mut Outlet) {
+    outlet.begin(&exchange.tables, &mut exchange.written);
+}
+
 /// Takes all messages that wait, and answers their octets.
 fn drain(rt: &impl Abort, exchange: &mut Exchange, outlet: &mut Outlet) -> Vec<u8> {
     let mut taken = Vec::new(exchange.alloc);
     for _ in 0..1_000u32 {
-        outlet.begin(&exchange.tables, &mut exchange.written);
+        begin(exchange, outlet);
         put(rt, &mut taken, outlet.lent());
         let count = outlet.lent().len();
         outlet.took(count);

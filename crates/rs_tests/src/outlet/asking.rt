@@ -1,7 +1,7 @@
 //! Calls that take no memory. What counts their requests for it stands outside the program:
 //! `tools/plays/without_memory.py` runs these tests, and wants none between two lines that they print.
 
-use super::{Exchange, all, change, decided, drain, is_drained, let_go, prefix};
+use super::{Exchange, all, begin, change, decided, drain, is_drained, let_go, prefix};
 use crate::common::{equals, from_here, to_here};
 use rs_open::Short;
 use rs_outlet::Outlet;
@@ -35,7 +35,7 @@ fn a_message_behind_two_turns(rt: HostRuntime) {
     change(&rt, &mut exchange, &mut outlet, 0..30);
     change(&rt, &mut exchange, &mut outlet, 30..60);
     from_here(&rt);
-    outlet.begin(&exchange.tables, &mut exchange.written);
+    begin(&mut exchange, &mut outlet);
     to_here(&rt);
     take(&mut exchange, &mut outlet);
     is_drained(&rt, &outlet);

@@ -2,7 +2,7 @@
 //! `tools/plays/without_memory.py` runs this test once for each request for memory, and refuses that
 //! one.
 
-use super::{Exchange, SENDER, all, drain, let_go, prefix, some};
+use super::{Exchange, SENDER, all, begin, drain, let_go, prefix, some};
 use crate::common::{equals, is_so, push, say};
 use rs_octets::Prefix;
 use rs_outlet::{Last, Outlet};
@@ -33,9 +33,9 @@ fn withdraw(rt: &impl Abort, exchange: &mut Exchange, first: u32) {
 fn half_told(rt: &impl Abort, before: &mut Exchange, now: &Exchange) -> Outlet {
     let mut outlet = before.outlet(rt);
     before.decides(rt, &mut outlet, all(600));
-    outlet.begin(&before.tables, &mut before.written);
+    begin(before, &mut outlet);
     outlet.took(outlet.lent().len());
-    outlet.begin(&before.tables, &mut before.written);
+    begin(before, &mut outlet);
     now.touch(rt, &mut outlet, BEFORE - 200..BEFORE + 300, 1);
     outlet
 }
