@@ -35,18 +35,17 @@ def play_to(names, row, known, short):
 def play(rows, known, short):
     """Plays these rows: each with what it came to.
 
-    The second time, and in the short form the third, it is played to ours and to those that the verdict needs.
+    The second time it is played to ours and to those that the verdict needs.
     """
-    most = 3 if short else 2
     for row in rows:
         seen, names = {}, row.servers
-        for times in range(1, most + 1):
+        for times in (1, 2):
             load = os.getloadavg()[0]
             seen |= play_to(names, row, known, short)
             missed = row.judge(seen, short) if seen["ours"].figures else seen["ours"].words
             if not missed:
                 break
-            print(f"  {row.letter}: missed at load {load:.1f}{', and played once more' if times < most else ''}: {missed}", flush=True)
+            print(f"  {row.letter}: missed at load {load:.1f}{', and played once more' if times == 1 else ''}: {missed}", flush=True)
             names = [it for it in row.servers if it in ("ours", NEEDED.get(row.letter))]
         yield row, Played(seen, missed, load, times)
 
