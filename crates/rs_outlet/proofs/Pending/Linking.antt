@@ -1,14 +1,12 @@
 -- The table by which slots are chained: what stands at the place of a hash, and what stays there.
-use Rattle.std.proofs.Common.{◌≡◌, ◌≢◌, ◌<◌, ◌≤◌, ◌-◌, ◌==◌, ℕ, zero, suc, Bool, true, false, cond, Option, None, Some, List, [], ◌∷◌, length, replicate, slice_set, refl, sym, ap, ◌∙◌, arith, inl, inr}
+use Rattle.std.proofs.Common.{◌≡◌, ◌≢◌, ◌<◌, ◌≤◌, ◌-◌, ◌==◌, ℕ, zero, suc, Bool, true, false, cond, Option, None, Some, List, [], ◌∷◌, length, slice_set, refl, sym, ap, ◌∙◌, arith, inl, inr}
 use Rattle.std.specs.Prelude.{slice_get, bit_and}
 use Rattle.std.proofs.lemmas.Bool.{cases_eq}
 use Rattle.std.proofs.lemmas.Bool.Decides.{nat_tests}
-use Rattle.std.proofs.lemmas.Option.{same_Some, slice_get_within}
+use Rattle.std.proofs.lemmas.Option.{same_Some}
 use Rattle.rs_adjin.proofs.TableRows.{set_apart, set_here}
-use Rattle.rs_rows.specs.Rows.{Row}
 use Rattle.rs_outlet.specs.declared.waiting.Wait.{Wait}
 use Rattle.rs_outlet.specs.declared.waiting.chains.Keyed.{Keyed}
-use Rattle.rs_outlet.specs.Inside.{AreChained}
 use Rattle.rs_outlet.specs.Pending.Slots.{AreByHash, hash_of}
 use Rattle.rs_outlet.specs.Pending.Linking.{AreMet, IsMet, is_for, next_in, no_slot, place_by, place_from, place_of}
 
@@ -26,29 +24,6 @@ nowhere [] zero x y none is = cc
 nowhere [] (suc n) x y none is = cc
 nowhere (l ∷ ls) zero x y none is = cc
 nowhere (l ∷ ls) (suc n) x y none is = nowhere ls n x y none is
-
--- what is no slot of a hash is passed over
-pub met_past : (ws : List Wait) (slot : ℕ) (w : Wait) (table : List Keyed) → slice_get ws slot ≡ Some w → (w.open ≡ true → (hash : ℕ) → hash_of w.due ≢ Some hash) → AreMet ws (suc slot) table → AreMet ws slot table
-met_past ws slot w table from none are m hash z at least opened z_hash = elim (cases_eq m slot) [
-  | inl same ↦
-      let z_is : z ≡ w = same_Some z w (sym at ∙ ap (slice_get ws) same ∙ from) in
-      absurd (none (ap (λ (v : Wait). v.open) (sym z_is) ∙ opened) hash (ap (λ (v : Wait). hash_of v.due) (sym z_is) ∙ z_hash))
-  | inr ne ↦ are m hash z at (omega (arith, least, ne)) opened z_hash
-]
-
--- behind all slots there is none
-pub none_met : (ws : List Wait) (table : List Keyed) → AreMet ws (length ws) table
-none_met ws table m hash z at least opened z_hash = absurd (let below = slice_get_within ws m z at in omega (arith, below, least))
-
-zeros : (k n c : ℕ) → slice_get (replicate k 0) n ≡ Some c → c ≡ 0
-zeros zero zero c is = absurd (cc)
-zeros zero (suc n) c is = absurd (cc)
-zeros (suc k) zero c is = sym (same_Some 0 c is)
-zeros (suc k) (suc n) c is = zeros k n c is
-
--- slots that lead nowhere are chained
-pub none_linked : (ws : List Wait) (k : ℕ) → AreByHash ws (replicate k 0)
-none_linked ws k n m chain hash w z at from to later below opened w_hash z_hash = absurd (let none = zeros k n chain at in omega (arith, none, below))
 
 place_is_from : (table : List Keyed) (hash : ℕ) → place_of table hash ≡ place_from table hash 32 (bit_and hash (length table - 1))
 unfolding place_of
@@ -76,9 +51,6 @@ module _ (table : List Keyed) (hash left at : ℕ) (some : 0 < left) (e : Keyed)
 
   pub it_is_further : is_for hash e ≡ false → place_from table hash left at ≡ place_from table hash (left - 1) (next_in (length table) at)
   it_is_further test = tested_here false test
-
-pub none_left : (table : List Keyed) (hash left at : ℕ) → left ≡ 0 → place_from table hash left at ≡ None
-none_left table hash left at none = ap (λ n. place_from table hash n at) none
 
 -- what stands at the place of a hash is free, or has it
 pub place_is : (table : List Keyed) (hash left at p : ℕ) → place_from table hash left at ≡ Some p → (e : Keyed) × (slice_get table p ≡ Some e) × (is_for hash e ≡ true)
@@ -232,7 +204,3 @@ module _ (ws : List Wait) (slot hash p : ℕ) (w : Wait) (table : List Keyed) (e
           was : (o : Option ℕ) → slice_get chains slot ≡ o → chain ≡ e.slot
           was None none = absurd (nowhere chains slot e.slot chain none (ap (slice_get (slice_set chains slot e.slot)) (sym same) ∙ at))
           was (Some c) some = same_Some chain e.slot (sym at ∙ ap (slice_get (slice_set chains slot e.slot)) same ∙ set_here chains slot e.slot c some)
-
--- slots that are chained by their hashes are chained
-pub by_hash_chained : (rows : List (Option Row)) (ws : List Wait) (chains : List ℕ) → AreByHash ws chains → AreChained rows ws chains
-by_hash_chained rows ws chains are n m chain hash w z a at from to later below waits opened w_hash z_hash is = absurd (are n m chain hash w z at from to later below opened w_hash z_hash)
