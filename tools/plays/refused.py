@@ -2,8 +2,7 @@
 
 play.py refused PROGRAM FOLDER
 
-Of the requests for memory of a session, by 1 and by 2 workers, each is refused in a run of its own; those before its first line
-once for sessions of the same configuration, since they are the same requests. It must show as a
+Of the requests for memory of a session, by 1 and by 2 workers, each is refused in a run of its own. It must show as a
 line `memory NAME`, with `close NAME` where octets came and without at a turn; as `rules refused: out of memory`; or as status 3
 with the words `out of memory`, and then what was written is a front of what is written else. Five kinds show as nothing: the
 one request of READING, those for a number that octets turn out not to need, since their prefix or their attributes have one,
@@ -127,13 +126,11 @@ OF_CHOICES = 1
 OF_ROWS = 1
 
 
-def sweep(program, library, folder, name, workers, started):
-    """How the refusals of a session show, and what is wrong. `started` has the configurations whose starts were played."""
+def sweep(program, library, folder, name, workers):
+    """How the refusals of a session show, and what is wrong."""
     refusals = Refusals(program, library, *session(folder, name), workers)
-    first = refusals.counts[0] + 1 if (refusals.text, workers) in started else 1
-    started.add((refusals.text, workers))
     kinds, otherwise = collections.Counter(), []
-    for number in range(first, refusals.counts[-1] + 1):
+    for number in range(1, refusals.counts[-1] + 1):
         played = refusals.play_refused(number)
         kinds[refusals.kind(number, played)] += 1
         if not played.status and (found := asked(played).wrong):
@@ -156,10 +153,10 @@ def play_refused(program, folder):
     """The results of all."""
     try:
         with tempfile.TemporaryDirectory() as room:
-            library, started = built(room, "refuse_memory"), set()
+            library = built(room, "refuse_memory")
             for name in REFUSED:
                 for workers in (1, 2):
-                    yield sweep(program, library, folder, name, workers, started)
+                    yield sweep(program, library, folder, name, workers)
     except (OSError, subprocess.SubprocessError) as fault:
         yield "memory refused", str(fault)
 
