@@ -1,8 +1,7 @@
 //! The events of a round, one at a time. A round gives a moment, what the operator has ordered, accepts the
 //! connections that have come, then reads one piece of each connection that is ready, and again while there is
 //! more and few were ready. Once much was heard, and at the end, come a moment, a turn, and room for each
-//! connection. Turns so stay small: an outlet that was touched at more than 4,096 prefixes would decide its
-//! whole table.
+//! connection. So turns stay short: while one goes on, nothing is read.
 
 ghost use Rattle.std.specs.Prelude.{◌≡◌, ◌+◌, ◌<◌, ◌≤◌, ◌∷◌, ℕ, List, min, length, Some, None, IfSome, IfErr, IsOk, IsSome, IsNone, false};
 ghost use Rattle.rs_live.specs.Calls.{Call, Closed, Printed};

@@ -2,4 +2,3 @@
 pub mod Next
 pub mod Begins
 pub mod Begun
-pub mod Written

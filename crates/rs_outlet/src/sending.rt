@@ -212,29 +212,6 @@ fn are_legal(attrs: &Arc<Attrs>)
     attributes_are_legal(attrs);
 }
 
-/// Lists what waits for these attributes, as [`Waits::choose_announced`] does.
-fn choose_news(
-    rows: &Rows,
-    waits: &mut Waits,
-    attrs: &Arc<Attrs>,
-    most: usize,
-    chosen: &mut Vec<usize>,
-    front: &mut Vec<Prefix>,
-)
-    requires most { (most ≤ vec_capacity chosen.old) × (most ≤ vec_capacity front.old) }
-    requires backed { AreBacked rows.now.rows.items waits.old.slots.items }
-    requires chained { AreChained rows.now.rows.items (take waits.old.sorted waits.old.slots.items) waits.old.chains.items }
-    ensures chosen { vec_capacity chosen.new ≡ vec_capacity chosen.old }
-    ensures front { vec_capacity front.new ≡ vec_capacity front.old }
-    ensures are { AreChosen rows.now.rows.items waits.old.slots.items (Some (arc_value attrs.now)) chosen.new.items front.new.items }
-    ensures all { front.new.items ≡ take most (passing (shares rows.now.rows.items (arc_value attrs.now)) (rising waits.old.slots.items)) }
-    ensures slots { waits.new.slots.items ≡ waits.old.slots.items }
-    ensures chained { AreChained rows.now.rows.items (take waits.new.sorted waits.new.slots.items) waits.new.chains.items }
-    ensures capacity { vec_capacity waits.new.slots ≡ vec_capacity waits.old.slots }
-{
-    waits.choose_announced(rows, attrs, most, chosen, front);
-}
-
 /// Writes the announcement of what waits for these attributes, and lists the slots.
 fn put_news(
     rows: &Rows,
@@ -265,19 +242,12 @@ fn put_news(
     // for the prover: they are legal
     are_legal(attrs);
     let usual = usual_prefixes(speech.limit);
-    choose_news(rows, waits, attrs, usual, chosen, front);
+    waits.choose_announced(rows, attrs, usual, chosen, front);
     let packed = put_announcement(attrs, speech, front, out, written);
     if packed.prefixes < usual {
         return packed;
     }
-    choose_news(
-        rows,
-        waits,
-        attrs,
-        most_prefixes(speech.limit),
-        chosen,
-        front,
-    );
+    waits.choose_announced(rows, attrs, most_prefixes(speech.limit), chosen, front);
     put_announcement(attrs, speech, front, out, written)
 }
 

@@ -4,10 +4,9 @@
 //! A message stands at a place by the hash of its attributes, where a later one takes its place. It is there only to save
 //! time: whatever stands there, a client is sent what it would be without.
 
-ghost use Rattle.std.specs.Prelude.{◌≡◌, ◌<◌, ◌≤◌, length, take, option_map, IfSome, IfNone, IsTrue};
+ghost use Rattle.std.specs.Prelude.{◌≡◌, ◌<◌, ◌≤◌, length, take, IfSome, IfNone, IsTrue};
 ghost use Rattle.std.specs.Arc.{arc_value};
 ghost use Rattle.rs_packer.specs.Packed.{announcement, IsLongestFront};
-ghost use Rattle.rs_outlet.specs.Message.Written.{written_of};
 
 use rs_attrs::{Attrs, Mode};
 use rs_octets::{Prefix, put};
@@ -25,20 +24,34 @@ const MOST_OCTETS: usize = 256;
 /// Nor is one of more prefixes than these.
 const MOST_PREFIXES: usize = 16;
 
-/// A message that announces these prefixes with these attributes; none where there are no attributes.
+/// A message that announces the first of these prefixes with these attributes, by the first of these octets.
 #[derive(Drop)]
 struct Message {
-    attrs: Option<Arc<Attrs>>,
+    attrs: Arc<Attrs>,
     mode: Mode,
-    prefixes: Vec<Prefix>,
-    octets: Vec<u8>,
-    ghost written: { octets.items ≡ written_of (option_map arc_value attrs) mode prefixes.items },
+    count: usize,
+    prefixes: [Prefix; MOST_PREFIXES],
+    size: usize,
+    octets: [u8; MOST_OCTETS],
+    ghost prefixes_fit: { count ≤ 16 },
+    ghost octets_fit: { size ≤ 256 },
+    ghost written: { take size octets ≡ announcement (arc_value attrs) mode (take count prefixes) },
 }
 
 /// The messages that were written last.
 #[derive(Drop)]
 pub struct Written {
-    messages: Vec<Message>,
+    messages: Vec<Option<Message>>,
+}
+
+/// Items at the front of room for more, in which what is `spare` stands.
+fn in_room<T: Copy, const ROOM: usize>(items: &[T], spare: T) -> [T; ROOM]
+    requires { length items.now ≤ ROOM }
+    ensures { take (length items.now) result ≡ items.now }
+{
+    let mut room = [spare; ROOM];
+    room[..items.len()].copy_from_slice(items);
+    room
 }
 
 /// Whether these are the same prefixes.
@@ -71,13 +84,20 @@ fn is_one_mode(some: Mode, other: Mode) -> bool
 }
 
 impl Message {
-    /// No message, and room for one.
-    fn none(alloc: Global) -> Result<Message, AllocError> {
-        Ok(Message {
-            attrs: None,
-            mode: Mode::Four,
-            prefixes: Vec::with_capacity(alloc, MOST_PREFIXES)?,
-            octets: Vec::with_capacity(alloc, MOST_OCTETS)?,
+    /// A message of some prefixes, if it is short.
+    fn short(attrs: &Arc<Attrs>, mode: Mode, prefixes: &[Prefix], octets: &[u8]) -> Option<Message>
+        requires { octets.now ≡ announcement (arc_value attrs.now) mode prefixes.now }
+    {
+        if prefixes.len() > MOST_PREFIXES || octets.len() > MOST_OCTETS {
+            return None;
+        }
+        Some(Message {
+            attrs: attrs.clone().ok()?,
+            mode,
+            count: prefixes.len(),
+            prefixes: in_room(prefixes, *prefixes.first()?),
+            size: octets.len(),
+            octets: in_room(octets, 0),
         })
     }
 
@@ -85,39 +105,13 @@ impl Message {
     fn octets_for(&self, attrs: &Arc<Attrs>, mode: Mode, prefixes: &[Prefix]) -> Option<&[u8]>
         ensures { IfSome result (λ octets. octets.now ≡ announcement (arc_value attrs.now) mode prefixes.now) }
     {
-        let Some(own) = &self.attrs else {
-            return None;
-        };
         if is_one_mode(self.mode, mode)
-            && are_equal(own, attrs)
-            && are_same(&self.prefixes, prefixes)
+            && are_equal(&self.attrs, attrs)
+            && are_same(&self.prefixes[..self.count], prefixes)
         {
-            return Some(&self.octets);
+            return Some(&self.octets[..self.size]);
         }
         None
-    }
-
-    /// Keeps a message in place of what was there, if it is short.
-    fn keep(&mut self, attrs: &Arc<Attrs>, mode: Mode, prefixes: &[Prefix], octets: &[u8])
-        requires { octets.now ≡ announcement (arc_value attrs.now) mode prefixes.now }
-    {
-        self.attrs = None;
-        self.octets.clear();
-        if self.prefixes.capacity() < prefixes.len() || self.octets.capacity() < octets.len() {
-            return;
-        }
-        let Ok(own) = attrs.clone() else {
-            return;
-        };
-        self.prefixes.clear();
-        let Ok(()) = self.prefixes.extend_from_slice(prefixes) else {
-            return;
-        };
-        let Ok(()) = self.octets.extend_from_slice(octets) else {
-            return;
-        };
-        self.mode = mode;
-        self.attrs = Some(own);
     }
 }
 
@@ -131,7 +125,7 @@ impl Written {
     pub fn new(alloc: Global) -> Result<Written, AllocError> {
         let mut messages = Vec::with_capacity(alloc, PLACES)?;
         for _ in 0..PLACES {
-            messages.push(Message::none(alloc)?)?;
+            messages.push(None)?;
         }
         Ok(Written { messages })
     }
@@ -154,7 +148,7 @@ impl Written {
         ensures none { IfNone result (out.new ≡ out.old) }
         ensures len { length out.new ≡ length out.old }
     {
-        let message = self.messages.get(place_of(attrs))?;
+        let message = self.messages.get(place_of(attrs))?.as_ref()?;
         let octets = message.octets_for(attrs, mode, prefixes)?;
         if limit < octets.len() {
             return None;
@@ -175,8 +169,8 @@ impl Written {
     )
         requires { octets.now ≡ announcement (arc_value attrs.now) mode prefixes.now }
     {
-        if let Some(message) = self.messages.get_mut(place_of(attrs)) {
-            message.keep(attrs, mode, prefixes, octets);
+        if let Some(place) = self.messages.get_mut(place_of(attrs)) {
+            *place = Message::short(attrs, mode, prefixes, octets);
         }
     }
 }

@@ -118,11 +118,6 @@ own_within [] k is = absurd (let f : ◌≡◌ {A = Option Bool} None (Some true
 own_within (p ∷ ps) zero is = omega arith
 own_within (p ∷ ps) (suc k) is = let rest = own_within ps k is in omega (arith, rest)
 
-pub own_there : (ps : List Part) (k : ℕ) (p : Part) → slice_get ps k ≡ Some p → is_own p ≡ true → slice_get (map is_own ps) k ≡ Some true
-own_there [] k p is own = absurd (let f : ◌≡◌ {A = Option Part} None (Some p) = is in cc)
-own_there (o ∷ ps) zero p is own = ap (λ b. Some b) (ap is_own (same_Some o p is) ∙ own)
-own_there (o ∷ ps) (suc k) p is own = own_there ps k p is own
-
 own_same : (ps : List Part) (k : ℕ) (q : Part) → is_own q ≡ true → slice_get (map is_own ps) k ≡ Some true → map is_own (set ps k q) ≡ map is_own ps
 own_same [] k q new own = refl
 own_same (o ∷ ps) zero q new own = ap (λ b. b ∷ map is_own ps) (new ∙ sym (same_Some (is_own o) true own))
@@ -133,12 +128,13 @@ own_here [] k q new below = absurd (omega (arith, below))
 own_here (o ∷ ps) zero q new below = ap (λ b. Some b) new
 own_here (o ∷ ps) (suc k) q new below = own_here ps k q new (omega (arith, below))
 
-pub own_kept : (ps : List Part) (k m : ℕ) (q : Part) → is_own q ≡ true → slice_get (map is_own ps) m ≡ Some true → slice_get (map is_own (set ps k q)) m ≡ Some true
-own_kept [] k m q new own = own
-own_kept (o ∷ ps) zero zero q new own = ap (λ b. Some b) new
-own_kept (o ∷ ps) zero (suc m) q new own = own
-own_kept (o ∷ ps) (suc k) zero q new own = own
-own_kept (o ∷ ps) (suc k) (suc m) q new own = own_kept ps k m q new own
+-- a block that was prepared still is, where another takes the place of one
+pub own_kept : (ps : List Part) (k m : ℕ) (p q : Part) → k < length ps → p ≡ get_or ps k p → (is_own p ≡ true → is_own q ≡ true) → slice_get (map is_own ps) m ≡ Some true → slice_get (map is_own (set ps k q)) m ≡ Some true
+own_kept [] k m p q below at new own = own
+own_kept (o ∷ ps) zero zero p q below at new own = ap (λ b. Some b) (new (ap is_own at ∙ same_Some (is_own o) true own))
+own_kept (o ∷ ps) zero (suc m) p q below at new own = own
+own_kept (o ∷ ps) (suc k) zero p q below at new own = own
+own_kept (o ∷ ps) (suc k) (suc m) p q below at new own = own_kept ps k m p q (omega (arith, below)) at new own
 
 -- ---- a block in place of another, as it is seen
 

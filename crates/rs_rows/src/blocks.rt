@@ -124,11 +124,10 @@ impl Blocks {
         ensures kept { (n : ℕ) → IsPrepared self.old.prepared n → IsPrepared self.new.prepared n }
     {
         let place = number as usize / ROWS;
-        let Some(part) = self.parts[place].copy(self.alloc, most)? else {
-            return Ok(());
-        };
-        self.prepared.push(place as u32)?;
-        self.parts[place] = part;
+        self.prepared.reserve(1)?;
+        if self.parts[place].open(self.alloc, most)? {
+            self.prepared.push_reserved(place as u32);
+        }
         Ok(())
     }
 

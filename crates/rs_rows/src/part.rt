@@ -1,6 +1,6 @@
 //! A block that one client has, or several.
 
-ghost use Rattle.std.specs.Prelude.{◌≡◌, ◌<◌, None, Some, true, option_map, slice_set, IfOk, IfSome};
+ghost use Rattle.std.specs.Prelude.{◌≡◌, ◌<◌, None, Some, true, option_map, replicate, slice_set, IfOk, IfSome, OnOk};
 ghost use Rattle.std.specs.Arc.{arc_value};
 ghost use Rattle.rs_rows.specs.Rows.{joined, row_at, shown};
 ghost use Rattle.rs_rows.specs.Places.{lent_row};
@@ -30,7 +30,7 @@ pub(crate) enum Part {
 }
 
 impl Part {
-    ghost use Rattle.rs_rows.specs.Blocks.{free_rows, is_own, rows_in};
+    ghost use Rattle.rs_rows.specs.Blocks.{is_own, rows_in};
 
     /// A block that can be shared. Where memory for that is refused, it is one client's still.
     #[inline(never)]
@@ -104,43 +104,73 @@ impl Part {
     /// A block whose rows are free and can be written.
     // not inlined: its block, on the stack first, would be made ready by each caller's call
     #[inline(never)]
-    fn fresh(alloc: Global) -> Result<Part, AllocError>
-        ensures own { IfOk result (λ part. is_own part ≡ true) }
-        ensures rows { IfOk result (λ part. rows_in part ≡ free_rows) }
+    fn fresh(alloc: Global) -> Result<Box<Block>, AllocError>
+        ensures { IfOk result (λ block. block.value.rows.items ≡ replicate 16 None) }
     {
-        Ok(Part::Own(Box::new(alloc, Block::free())?))
+        Ok(Box::new(alloc, Block::free())?)
     }
 
-    /// The rows of a block once more, as they can be written.
+    /// The rows of a block that others have too, as they can be written. Where `most` of them are to be, what is taken out
+    /// of them is taken as shares of the block that was.
     #[inline(never)]
-    fn copy_of(alloc: Global, block: &Block) -> Result<Part, AllocError>
-        ensures own { IfOk result (λ part. is_own part ≡ true) }
-        ensures rows { IfOk result (λ part. rows_in part ≡ block.now.rows.items) }
-    {
-        Ok(Part::Own(Box::new(alloc, block.copy()?)?))
-    }
-
-    /// The same, of which most are to be written.
-    #[inline(never)]
-    fn over(alloc: Global, block: &Arc<Block>) -> Result<Part, AllocError>
+    fn copy_of(alloc: Global, block: &Arc<Block>, most: bool) -> Result<Part, AllocError>
         ensures own { IfOk result (λ part. is_own part ≡ true) }
         ensures rows { IfOk result (λ part. rows_in part ≡ (arc_value block.now).rows.items) }
     {
-        Ok(Part::Over(Box::new(alloc, Draft::over(block)?)?))
+        if most {
+            return Ok(Part::Over(Box::new(alloc, Draft::over(block)?)?));
+        }
+        Ok(Part::Own(Box::new(alloc, block.copy()?)?))
     }
 
-    /// The same rows, as they can be written; none where they can be written here. Where `most` of them are to be, what is
-    /// taken out of them is taken as shares of the block that was.
-    pub(crate) fn copy(&self, alloc: Global, most: bool) -> Result<Option<Part>, AllocError>
-        ensures here { IfOk result (λ made. made ≡ None → is_own self.now ≡ true) }
-        ensures own { IfOk result (λ made. IfSome made (λ part. is_own part ≡ true)) }
-        ensures rows { IfOk result (λ made. IfSome made (λ part. rows_in part ≡ rows_in self.now)) }
+    /// The rows of a block, as they can be written: a copy of them, or themselves where nobody else has the block. Where
+    /// that is refused, the block is as it was.
+    #[inline(never)]
+    fn opened(alloc: Global, block: Arc<Block>, most: bool) -> (Part, Result<(), AllocError>)
+        ensures rows { rows_in result.0 ≡ (arc_value block).rows.items }
+        ensures own { OnOk result.1 (is_own result.0 ≡ true) }
     {
-        match self {
-            Part::Free => Ok(Some(Part::fresh(alloc)?)),
-            Part::Own(_) | Part::Over(_) => Ok(None),
-            Part::Shared(block) if most => Ok(Some(Part::over(alloc, block)?)),
-            Part::Shared(block) => Ok(Some(Part::copy_of(alloc, block)?)),
+        let mut block = block;
+        if Arc::strong_count(&block) == 1 {
+            let Ok(mut room) = Part::fresh(alloc) else {
+                return (Part::Shared(block), Err(AllocError));
+            };
+            match Arc::try_unwrap(block) {
+                Ok(rows) => {
+                    Box::replace(&mut room, rows);
+                    return (Part::Own(room), Ok(()));
+                }
+                Err(shared) => block = shared,
+            }
+        }
+        match Part::copy_of(alloc, &block, most) {
+            Ok(part) => (part, Ok(())),
+            Err(refused) => (Part::Shared(block), Err(refused)),
+        }
+    }
+
+    /// The rows can be written from now on. Answers whether they couldn't before. Where `most` of them are to be, what is
+    /// taken out of them is taken as shares of the block that was.
+    pub(crate) fn open(&mut self, alloc: Global, most: bool) -> Result<bool, AllocError>
+        ensures rows { rows_in self.new ≡ rows_in self.old }
+        ensures own { OnOk result (is_own self.new ≡ true) }
+        ensures kept { is_own self.old ≡ true → is_own self.new ≡ true }
+    {
+        match mem::replace(self, Part::Free) {
+            Part::Free => {
+                *self = Part::Own(Part::fresh(alloc)?);
+                Ok(true)
+            }
+            Part::Shared(block) => {
+                let (part, made) = Part::opened(alloc, block, most);
+                *self = part;
+                made?;
+                Ok(true)
+            }
+            part => {
+                *self = part;
+                Ok(false)
+            }
         }
     }
 

@@ -1,6 +1,7 @@
 //! Which slots the next UPDATE is about, and that they wait no more once it is begun.
 
 ghost use Rattle.std.specs.Prelude.{◌≡◌, ◌≤◌, ◌<◌, ◌++◌, ◌∷◌, ◌⊎◌, [], IfSome, ℕ, length, take, true, List, Option, None, Some, false, IsTrue, vec_len, option_map, slice_get, if◌then◌else◌};
+ghost use Rattle.std.specs.Arc.{arc_value};
 ghost use Rattle.std.specs.List.{AllWithin, HoldsAt, list_any};
 ghost use Rattle.std.specs.Ordering.{eq_by_cmp};
 ghost use Rattle.std.specs.Vec.{vec_capacity};
@@ -20,6 +21,7 @@ use rs_attrs::Attrs;
 use rs_octets::Prefix;
 use rs_rows::Lent;
 use std::cmp::Ordering;
+use std::sync::Arc;
 
 impl Waits {
     /// The slot of the least prefix that is to be withdrawn.
@@ -154,7 +156,7 @@ impl Waits {
     pub(crate) fn choose_announced(
         &mut self,
         rows: &Rows,
-        attrs: &Attrs,
+        attrs: &Arc<Attrs>,
         most: usize,
         chosen: &mut Vec<usize>,
         front: &mut Vec<Prefix>,
@@ -164,8 +166,8 @@ impl Waits {
         requires chained { AreChained rows.now.rows.items (take self.old.sorted self.old.slots.items) self.old.chains.items }
         ensures chosen { vec_capacity chosen.new ≡ vec_capacity chosen.old }
         ensures front { vec_capacity front.new ≡ vec_capacity front.old }
-        ensures are { AreChosen rows.now.rows.items self.old.slots.items (Some attrs.now) chosen.new.items front.new.items }
-        ensures all { front.new.items ≡ take most (passing (shares rows.now.rows.items attrs.now) (rising self.old.slots.items)) }
+        ensures are { AreChosen rows.now.rows.items self.old.slots.items (Some (arc_value attrs.now)) chosen.new.items front.new.items }
+        ensures all { front.new.items ≡ take most (passing (shares rows.now.rows.items (arc_value attrs.now)) (rising self.old.slots.items)) }
         ensures slots { self.new.slots.items ≡ self.old.slots.items }
         ensures chained { AreChained rows.now.rows.items (take self.new.sorted self.new.slots.items) self.new.chains.items }
         ensures capacity { vec_capacity self.new.slots ≡ vec_capacity self.old.slots }
