@@ -1,11 +1,11 @@
 //! The Loc-RIB of a client: a row for each number that the Adj-RIBs-In gave to a prefix.
 
-ghost use Rattle.std.specs.Prelude.{◌≡◌, ◌≤◌, ◌<◌, ◌+◌, ℕ, [], Some, None, IfOk, IsTrue, OnOk, length, slice_set, option_map};
+ghost use Rattle.std.specs.Prelude.{◌≡◌, ◌≤◌, ◌<◌, ◌+◌, ℕ, [], Some, None, IfOk, OnOk, length, slice_set, option_map};
 ghost use Rattle.std.specs.Arc.{arc_value};
 ghost use Rattle.rs_rows.specs.Cells.{taken_of};
 ghost use Rattle.rs_rows.specs.Places.{lent_row};
 ghost use Rattle.rs_rows.specs.Rows.{IsPrepared, row_at, shown};
-ghost use Rattle.rs_outlet.specs.Inside.{IsOwn, attributes_at, loc_of, numbers_from};
+ghost use Rattle.rs_outlet.specs.Inside.{attributes_at, loc_of, numbers_from};
 
 use crate::table::Rows;
 use rs_attrs::Attrs;
@@ -71,16 +71,6 @@ impl Rows {
         ensures { option_map (λ attrs. arc_value attrs.now) result ≡ attributes_at self.now.rows.items number }
     {
         self.rows.attrs(number as usize)
-    }
-
-    /// Whether the row of a number is free or has this prefix.
-    pub(crate) fn is_own(&self, number: u32, prefix: &Prefix) -> bool
-        ensures { IsTrue result → IsOwn (row_at self.now.rows.items number) prefix.now }
-    {
-        match self.get(number) {
-            Some(row) => row.prefix == *prefix,
-            None => true,
-        }
     }
 
     /// There is a row for each of the first numbers. It is refused where 32 bits don't count them.

@@ -1,7 +1,6 @@
 //! A turn: what is touched is decided anew, and what the client was not told so waits.
 
 ghost use Rattle.std.specs.Prelude.{◌≡◌, Option, None, Some, true, false, nat_eq, nat_lt, count_by, option_map, length, if◌then◌else◌, IsTrue, IfOk, OnOk, OnErr};
-ghost use Rattle.std.specs.Arc.{arc_value};
 ghost use Rattle.std.specs.List.{IsDistinct};
 ghost use Rattle.std.specs.Map.{keys_of};
 ghost use Rattle.std.specs.FinMap as fin;
@@ -13,7 +12,8 @@ ghost use Rattle.rs_outlet.specs.Decided.Turns.{IsCurrent};
 ghost use Rattle.rs_outlet.specs.Decided.Due.{any_holds, due_to};
 ghost use Rattle.rs_outlet.specs.Decided.Counted.{is_counted, is_left, is_standing};
 ghost use Rattle.rs_outlet.specs.Decided.HeldBy.{held_by, AreOfOneServer};
-ghost use Rattle.rs_outlet.specs.Inside.{AreDecided, AreFresh, IsDecidedAt};
+ghost use Rattle.rs_outlet.specs.Inside.{AreDecided, AreFresh, IsDecidedAt, IsOwn, shown};
+ghost use Rattle.rs_rows.specs.Places.{lent_row};
 ghost use Rattle.rs_outlet.specs.Decided.Touching.{is_number_touched, is_numbered_in, touched_of};
 ghost use Rattle.rs_outlet.specs.Decided.Choices.{AreChoices};
 ghost use Rattle.rs_outlet.specs.Decided.Memo.{IsMemo};
@@ -26,10 +26,9 @@ use crate::deciding::{Draft, Passed, Sources, decide};
 use crate::outlet::Outlet;
 use crate::table::Rows;
 use crate::touched::{TOUCHED_MAX, Touched};
-use rs_attrs::Attrs;
 use rs_octets::Prefix;
+use rs_rows::Lent;
 use std::alloc::{AllocError, Global};
-use std::sync::Arc;
 
 /// The changes of a turn, how many prefixes were decided, and whether all were.
 #[derive(Drop)]
@@ -40,13 +39,23 @@ pub(crate) struct Decided {
 }
 
 /// Whether a row has just what is due.
-fn is_due(row: Option<&Arc<Attrs>>, due: Option<&Passed<'_>>) -> bool
-    ensures { IsTrue result → option_map (λ attrs. arc_value attrs.now) row.entry ≡ option_map (λ passed. attributes_passed passed.now) due.entry }
+fn is_due(row: Option<&Lent<'_>>, due: Option<&Passed<'_>>) -> bool
+    ensures { IsTrue result → shown (option_map (λ row. lent_row row.now) row.entry) ≡ option_map (λ passed. attributes_passed passed.now) due.entry }
 {
     match (row, due) {
         (None, None) => true,
-        (Some(row), Some(due)) => row == due.attrs(),
+        (Some(row), Some(due)) => row.attrs == due.attrs(),
         _ => false,
+    }
+}
+
+/// Whether a row is free or has this prefix.
+fn is_own(row: Option<&Lent<'_>>, prefix: &Prefix) -> bool
+    ensures { IsTrue result → IsOwn (option_map (λ row. lent_row row.now) row.entry) prefix.now }
+{
+    match row {
+        Some(row) => row.prefix == *prefix,
+        None => true,
     }
 }
 
@@ -70,10 +79,11 @@ fn decide_one<'a>(
     ensures memo { OnOk result (IsMemo sources.now.config.now sources.now.client draft.new.memo) }
 {
     let due = decide(sources, speech, number, &prefix, draft)?;
-    if is_due(rows.attrs(number), due.as_ref()) {
+    let row = rows.get(number);
+    if is_due(row.as_ref(), due.as_ref()) {
         return Ok(());
     }
-    if !rows.is_own(number, &prefix) {
+    if !is_own(row.as_ref(), &prefix) {
         return Err(AllocError);
     }
     let due = match due {

@@ -128,6 +128,11 @@ own_here [] k q new below = absurd (omega (arith, below))
 own_here (o ∷ ps) zero q new below = ap (λ b. Some b) new
 own_here (o ∷ ps) (suc k) q new below = own_here ps k q new (omega (arith, below))
 
+pub own_there : (ps : List Part) (k : ℕ) (p : Part) → k < length ps → p ≡ get_or ps k p → is_own p ≡ true → slice_get (map is_own ps) k ≡ Some true
+own_there [] k p below at own = absurd (omega (arith, below))
+own_there (o ∷ ps) zero p below at own = ap (λ b. Some b) (ap is_own (sym at) ∙ own)
+own_there (o ∷ ps) (suc k) p below at own = own_there ps k p (omega (arith, below)) at own
+
 -- a block that was prepared still is, where another takes the place of one
 pub own_kept : (ps : List Part) (k m : ℕ) (p q : Part) → k < length ps → p ≡ get_or ps k p → (is_own p ≡ true → is_own q ≡ true) → slice_get (map is_own ps) m ≡ Some true → slice_get (map is_own (set ps k q)) m ≡ Some true
 own_kept [] k m p q below at new own = own

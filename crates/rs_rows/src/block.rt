@@ -31,11 +31,9 @@ impl Block {
     pub(crate) fn free() -> Block
         ensures { result.rows.items ≡ replicate 16 None }
     {
-        let mut rows = ArrayVec::new();
-        for _ in 0..ROWS {
-            rows.push(Place::free());
+        Block {
+            rows: ArrayVec::from_array_in((), Default::default()),
         }
-        Block { rows }
     }
 
     /// The same rows once more.

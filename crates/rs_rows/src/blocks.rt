@@ -124,10 +124,12 @@ impl Blocks {
         ensures kept { (n : ℕ) → IsPrepared self.old.prepared n → IsPrepared self.new.prepared n }
     {
         let place = number as usize / ROWS;
-        self.prepared.reserve(1)?;
-        if self.parts[place].open(self.alloc, most)? {
-            self.prepared.push_reserved(place as u32);
+        if self.parts[place].can_be_written() {
+            return Ok(());
         }
+        self.prepared.reserve(1)?;
+        self.parts[place].open(self.alloc, most)?;
+        self.prepared.push_reserved(place as u32);
         Ok(())
     }
 

@@ -126,11 +126,10 @@ impl Part {
     /// The rows of a block, as they can be written: a copy of them, or themselves where nobody else has the block. Where
     /// that is refused, the block is as it was.
     #[inline(never)]
-    fn opened(alloc: Global, block: Arc<Block>, most: bool) -> (Part, Result<(), AllocError>)
+    fn opened(alloc: Global, mut block: Arc<Block>, most: bool) -> (Part, Result<(), AllocError>)
         ensures rows { rows_in result.0 ≡ (arc_value block).rows.items }
         ensures own { OnOk result.1 (is_own result.0 ≡ true) }
     {
-        let mut block = block;
         if Arc::strong_count(&block) == 1 {
             let Ok(mut room) = Part::fresh(alloc) else {
                 return (Part::Shared(block), Err(AllocError));
@@ -149,9 +148,20 @@ impl Part {
         }
     }
 
-    /// The rows can be written from now on. Answers whether they couldn't before. Where `most` of them are to be, what is
-    /// taken out of them is taken as shares of the block that was.
-    pub(crate) fn open(&mut self, alloc: Global, most: bool) -> Result<bool, AllocError>
+    /// Whether the rows can be written.
+    #[inline(always)]
+    pub(crate) fn can_be_written(&self) -> bool
+        ensures { result ≡ is_own self.now }
+    {
+        match self {
+            Part::Own(_) | Part::Over(_) => true,
+            Part::Free | Part::Shared(_) => false,
+        }
+    }
+
+    /// The rows can be written from now on. Where `most` of them are to be, what is taken out of them is taken as shares of
+    /// the block that was.
+    pub(crate) fn open(&mut self, alloc: Global, most: bool) -> Result<(), AllocError>
         ensures rows { rows_in self.new ≡ rows_in self.old }
         ensures own { OnOk result (is_own self.new ≡ true) }
         ensures kept { is_own self.old ≡ true → is_own self.new ≡ true }
@@ -159,17 +169,16 @@ impl Part {
         match mem::replace(self, Part::Free) {
             Part::Free => {
                 *self = Part::Own(Part::fresh(alloc)?);
-                Ok(true)
+                Ok(())
             }
             Part::Shared(block) => {
                 let (part, made) = Part::opened(alloc, block, most);
                 *self = part;
-                made?;
-                Ok(true)
+                made
             }
             part => {
                 *self = part;
-                Ok(false)
+                Ok(())
             }
         }
     }

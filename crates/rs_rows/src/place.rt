@@ -53,6 +53,8 @@ pub struct Lent<'a> {
 
 /// A place is free before a route is put there.
 impl Default for Place {
+    ghost is_default = { λ p. p ≡ None };
+
     fn default() -> Place
         ensures { result ≡ None }
     {

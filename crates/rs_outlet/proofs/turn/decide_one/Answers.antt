@@ -1,10 +1,11 @@
 use Rattle.std.proofs.Common.{◌≡◌, ◌∙◌, Option, None, Some, refl, sym, ap}
 use Rattle.std.specs.Prelude.{option_map, option_copied}
 use Rattle.std.specs.Borrow.{Bor}
+use Rattle.rs_rows.specs.Places.{lent_row}
 use Rattle.rs_outlet.specs.Decided.Due.{due_to}
 use Rattle.rs_outlet.specs.Decided.HeldBy.{held_by}
 use Rattle.rs_outlet.specs.Decided.Passing.{attributes_passed}
-use Rattle.rs_outlet.specs.Inside.{attributes_at}
+use Rattle.rs_outlet.specs.Inside.{attributes_at, shown}
 use Rattle.rs_outlet.proofs.Decided.Decisions.{decided_there}
 use Rattle.rs_outlet.proofs.Decided.Numbering.{number_once}
 use Rattle.rs_outlet.proofs.turn.decide_one.Goals as goal
@@ -21,6 +22,7 @@ returns-then-is_due-clause-decided c =
     let n = c.args.number in
     let p = c.args.prefix in
     let at : attributes_at rows n ≡ due_at p =
-    sym c.attrs.ensures ∙ c.is_due.ensures c.if-is_due.true ∙ map_copied attributes_passed c.as_ref.result
-    ∙ ap (option_map attributes_passed) c.as_ref.ensures.value ∙ c.in_ok-due.ensures.due in
+    ap shown (sym c.get-row.ensures ∙ ap (option_map lent_row) (sym c.as_ref.ensures.value) ∙ sym (map_copied lent_row c.as_ref.result))
+    ∙ c.is_due.ensures c.if-is_due.true ∙ map_copied attributes_passed c.as_ref-2.result
+    ∙ ap (option_map attributes_passed) c.as_ref-2.ensures.value ∙ c.in_ok-due.ensures.due in
     decided_there ins due_at rows n p _ c.requires.number (λ q there. number_once ins q p n there c.requires.number) at
