@@ -119,6 +119,7 @@ impl Ribs {
         let was_dropped = self.drops(c, number);
         if self.tables.withdraw_at(c, number) {
             self.dropped.note(c, was_dropped, false);
+            self.unheld.list(&self.tables, number);
             self.touch_others(c, number, prefix);
         }
     }
@@ -184,6 +185,7 @@ impl Ribs {
         ensures kept { KeepsFresh self.old self.new }
     {
         self.touch_held(c);
+        self.unheld.list_held(&self.tables, c);
         self.dropped.clear(c);
         self.tables.begin(c, 0);
     }

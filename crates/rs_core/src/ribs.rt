@@ -11,6 +11,7 @@ ghost use Rattle.rs_policy.specs.Noted.{note_of_import};
 ghost use Rattle.rs_core.specs.Run.Keeping.{AreKept, AreBare};
 
 use crate::adj_rib_in::Dropped;
+use crate::sweeping::Unheld;
 use rs_adjin::AdjIns;
 use rs_outlet::{Outlet, Written};
 use rs_policy::Config;
@@ -28,8 +29,8 @@ pub(crate) struct Ribs {
     /// Of each client how many of its routes its import rules drop.
     pub(crate) dropped: Dropped,
     pub(crate) outlets: Vec<Outlet>,
-    /// The number of the prefix that is swept next.
-    pub(crate) swept: u32,
+    /// The numbers of prefixes that are swept next.
+    pub(crate) unheld: Unheld,
     /// The messages that were written last.
     pub(crate) written: Written,
     ghost clients_len: { length config.clients ≡ count },
@@ -78,7 +79,7 @@ impl Ribs {
             tables,
             dropped,
             outlets,
-            swept: 0,
+            unheld: Unheld::new(alloc)?,
             written: Written::new(alloc)?,
         })
     }

@@ -6,9 +6,12 @@ ghost use Rattle.rs_adjin.specs.AdjIns as adj_ins;
 ghost use Rattle.rs_outlet.specs.Views.{View};
 ghost use Rattle.rs_outlet.specs.Inside.{IsNoNumberOf};
 
-use crate::ribs::Ribs;
+mod unheld;
 
-/// How many numbers of prefixes are swept after a turn.
+use crate::ribs::Ribs;
+pub(crate) use unheld::Unheld;
+
+/// How many numbers of prefixes are swept after a turn at most.
 const SWEEP: usize = 4096;
 
 impl Ribs {
@@ -29,19 +32,17 @@ impl Ribs {
         }
     }
 
-    /// Sweeps the next number; after the greatest it begins again.
+    /// Sweeps the next number, while there is one that nobody holds.
     fn sweep_next(&mut self)
         ensures settings { KeepsSettings self.old self.new }
         ensures tables { adj_ins.Same self.old.tables self.new.tables }
         ensures outlets { self.new.outlets ≡ self.old.outlets }
         ensures kept { KeepsFresh self.old self.new }
     {
-        let number = if (self.swept as usize) < self.tables.numbers() {
-            self.swept
-        } else {
-            0
-        };
-        self.swept = number.wrapping_add(1);
+        if !self.tables.has_unheld() {
+            return;
+        }
+        let number = self.unheld.next(&self.tables);
         self.give_up(number);
     }
 

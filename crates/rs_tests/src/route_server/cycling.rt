@@ -63,3 +63,34 @@ fn cycled_prefixes_make_no_table_grow(rt: HostRuntime) {
     is_so(&rt, exchange.core.is_established(A), "established");
     exchange.let_go();
 }
+
+/// The member announces prefixes from a number on.
+fn announce(rt: &impl Abort, exchange: &mut Exchange, first: u32) {
+    let [announced, _withdrawn] = updates(rt, exchange.alloc, first);
+    exchange.hear_octets(rt, A, &announced);
+}
+
+/// The member withdraws prefixes from a number on.
+fn withdraw(rt: &impl Abort, exchange: &mut Exchange, first: u32) {
+    let [_announced, withdrawn] = updates(rt, exchange.alloc, first);
+    exchange.hear_octets(rt, A, &withdrawn);
+}
+
+#[test]
+fn withdrawn_prefixes_leave_their_numbers_at_the_next_turn(rt: HostRuntime) {
+    let mut exchange = Exchange::of_both(&rt, rt.alloc(), "");
+    // There are more than one sweep goes over.
+    for round in 0..6u32 {
+        let first = round.wrapping_mul(EACH).wrapping_add(0x0a_0000);
+        announce(&rt, &mut exchange, first);
+    }
+    exchange.core.turn();
+    let rows = exchange.core.rows();
+    is_so(&rt, 6 * EACH as usize <= rows, "each has a row");
+    withdraw(&rt, &mut exchange, 0x0a_0000 + 5 * EACH);
+    exchange.core.turn();
+    announce(&rt, &mut exchange, 0x0b_0000);
+    equals(&rt, exchange.core.rows(), rows);
+    equals(&rt, exchange.core.prefixes(), 6 * EACH as usize);
+    exchange.let_go();
+}
