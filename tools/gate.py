@@ -8,8 +8,9 @@ built rs_served, records one and plays the record, and gives both programs confi
 plain function (`plain`): of their fronts, with losses, cut and changed octets, refused memory and without threads, and of random
 sessions. It plays hostile members to the built rs_served, those whose play takes seconds. It runs tests
 of calls that take no memory where requests are counted and a test of outlets where memory is refused, compares the example
-configurations with those that are tested, and looks whether what the pages name is there. What failed is said once more at
-the end. The last line is 'N passed, M failed' over all of it; the exit status is 0 where nothing failed.
+configurations with those that are tested, and looks whether the edits of wrong programs still apply, and what the pages name is
+there. What failed is said once more at the end. The last line is 'N passed, M failed' over all of it; the exit status is 0 where
+nothing failed.
 
 It reads the repository, and writes nothing but what `rt ci` itself writes.
 """
@@ -24,6 +25,7 @@ import sys
 import threading
 import time
 
+from check_edits import check_edits
 from check_examples import check
 from check_names import check_pages
 from fuzz import CASES, fuzz
@@ -189,6 +191,7 @@ def play_all(crates, folder):
     yield from play_alone(crates, folder)
     yield from play_memory(crates / "rs_tests/out/rs_tests_tests")
     yield from check()
+    yield from check_edits()
     yield from check_pages()
 
 
