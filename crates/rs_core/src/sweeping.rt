@@ -12,7 +12,7 @@ use crate::ribs::Ribs;
 pub(crate) use unheld::Unheld;
 
 /// How many numbers of prefixes are swept after a turn at most.
-const SWEEP: usize = 4096;
+pub(crate) const SWEEP: usize = 4096;
 
 impl Ribs {
     ghost use Rattle.rs_core.specs.Ribs.{KeepsFresh, KeepsSettings, outlet_count, outlet_in};

@@ -299,15 +299,19 @@ fn decide_among<'a>(
     )
 }
 
-/// What is due to the client at a prefix: the best of the candidates, as it is passed on, where it fits.
+/// What is due to the client at a prefix that these clients hold: the best of the candidates, as it is passed on, where it
+/// fits.
 pub(crate) fn decide<'a>(
     sources: &Sources<'a>,
     speech: Speech,
     number: u32,
     prefix: &Prefix,
+    mut holders: Holders<'a>,
     draft: &mut Draft<'a>,
 ) -> Result<Option<Passed<'a>>, AllocError>
     requires number { number_of sources.now.ins.now prefix.now ≡ Some number }
+    requires holders { ListsHolders sources.now.ins.now prefix.now (map (λ h. h.0) holders) }
+    requires notes { All (λ h. h.1 ≡ note_of_import sources.now.config.now h.0.0 prefix.now h.0.1) holders }
     requires server { AreOfOneServer sources.now }
     requires choices { AreChoices (held_by sources.now) sources.now.ins.now draft.old.choices.kept.items }
     requires memo { IsMemo sources.now.config.now sources.now.client draft.old.memo }
@@ -315,7 +319,6 @@ pub(crate) fn decide<'a>(
     ensures choices { OnOk result (AreChoices (held_by sources.now) sources.now.ins.now draft.new.choices.kept.items) }
     ensures memo { OnOk result (IsMemo sources.now.config.now sources.now.client draft.new.memo) }
 {
-    let mut holders = sources.ins.at_number(number);
     if holders.is_empty() {
         return Ok(None);
     }

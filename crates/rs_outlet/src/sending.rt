@@ -4,6 +4,7 @@
 
 ghost use Rattle.std.specs.Prelude.{◌≡◌, ◌+◌, ◌≤◌, ◌<◌, List, Option, true, false, None, Some, length, take, vec_len};
 ghost use Rattle.std.specs.Arc.{arc_value};
+ghost use Rattle.std.specs.List.{HoldsAt};
 ghost use Rattle.rs_open.specs.Writing.{keepalive};
 ghost use Rattle.rs_open.specs.declared.short.Short.{Short};
 ghost use Rattle.rs_packer.specs.Packed.{IsLongestFront, announcement, withdrawal};
@@ -212,10 +213,11 @@ fn are_legal(attrs: &Arc<Attrs>)
     attributes_are_legal(attrs);
 }
 
-/// Writes the announcement of what waits for these attributes, and lists the slots.
+/// Writes the announcement of what waits for these attributes, as the slot does that is `known`, and lists the slots.
 fn put_news(
     rows: &Rows,
     waits: &mut Waits,
+    known: usize,
     attrs: &Arc<Attrs>,
     speech: Speech,
     chosen: &mut Vec<usize>,
@@ -226,6 +228,7 @@ fn put_news(
     requires room { limit_octets speech.limit ≤ vec_len out.old }
     requires in_turn { NoneWithdrawn waits.old.slots.items }
     requires some { IsLeastOf (WaitsFor rows.now.rows.items (arc_value attrs.now)) is_announced waits.old.slots.items }
+    requires known { HoldsAt (WaitsFor rows.now.rows.items (arc_value attrs.now)) waits.old.slots.items known }
     requires backed { AreBacked rows.now.rows.items waits.old.slots.items }
     requires chained { AreChained rows.now.rows.items (take waits.old.sorted waits.old.slots.items) waits.old.chains.items }
     requires fit { RowsFit speech rows.now.rows.items }
@@ -242,12 +245,13 @@ fn put_news(
     // for the prover: they are legal
     are_legal(attrs);
     let usual = usual_prefixes(speech.limit);
-    waits.choose_announced(rows, attrs, usual, chosen, front);
+    waits.choose_announced(rows, known, attrs, usual, chosen, front);
     let packed = put_announcement(attrs, speech, front, out, written);
     if packed.prefixes < usual {
         return packed;
     }
-    waits.choose_announced(rows, attrs, most_prefixes(speech.limit), chosen, front);
+    let most = most_prefixes(speech.limit);
+    waits.choose_announced(rows, known, attrs, most, chosen, front);
     put_announcement(attrs, speech, front, out, written)
 }
 
@@ -284,7 +288,9 @@ fn put_update(
     let Some(row) = waits.row_for(rows, first) else {
         return NOTHING;
     };
-    put_news(rows, waits, row.attrs, speech, chosen, front, out, written)
+    put_news(
+        rows, waits, first, row.attrs, speech, chosen, front, out, written,
+    )
 }
 
 impl Outlet {

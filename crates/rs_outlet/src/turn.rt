@@ -1,19 +1,21 @@
 //! A turn: what is touched is decided anew, and what the client was not told so waits.
 
-ghost use Rattle.std.specs.Prelude.{◌≡◌, Option, None, Some, true, false, nat_eq, nat_lt, count_by, option_map, length, if◌then◌else◌, IsTrue, IfOk, OnOk, OnErr};
+ghost use Rattle.std.specs.Prelude.{◌≡◌, List, Option, None, Some, true, false, nat_eq, nat_lt, count_by, map, option_map, length, if◌then◌else◌, IsTrue, IfOk, OnOk, OnErr, All};
 ghost use Rattle.std.specs.List.{IsDistinct};
 ghost use Rattle.std.specs.Map.{keys_of};
 ghost use Rattle.std.specs.FinMap as fin;
 ghost use Rattle.std.specs.FinSet as set;
 ghost use Rattle.rs_octets.specs.Prefixes.{Prefix};
-ghost use Rattle.rs_adjin.specs.AdjIns.{number_of, prefix_of};
+ghost use Rattle.rs_adjin.specs.AdjIns.{number_of, prefix_of, ListsHolders};
 ghost use Rattle.rs_outlet.specs.Views.{AreNumbered, HaveNumbers, IsCount, IsNumberOf, IsOneOf, Prefixes, WaitsAreExact, is_touched, is_whole};
 ghost use Rattle.rs_outlet.specs.Decided.Turns.{IsCurrent};
 ghost use Rattle.rs_outlet.specs.Decided.Due.{any_holds, due_to};
 ghost use Rattle.rs_outlet.specs.Decided.Counted.{is_counted, is_left, is_standing};
 ghost use Rattle.rs_outlet.specs.Decided.HeldBy.{held_by, AreOfOneServer};
 ghost use Rattle.rs_outlet.specs.Inside.{AreDecided, AreFresh, IsDecidedAt, IsOwn, shown};
+ghost use Rattle.rs_policy.specs.Noted.{note_of_import};
 ghost use Rattle.rs_rows.specs.Places.{lent_row};
+ghost use Rattle.rs_rows.specs.Rows.{Row, row_at};
 ghost use Rattle.rs_outlet.specs.Decided.Touching.{is_number_touched, is_numbered_in, touched_of};
 ghost use Rattle.rs_outlet.specs.Decided.Choices.{AreChoices};
 ghost use Rattle.rs_outlet.specs.Decided.Memo.{IsMemo};
@@ -26,6 +28,7 @@ use crate::deciding::{Draft, Passed, Sources, decide};
 use crate::outlet::Outlet;
 use crate::table::Rows;
 use crate::touched::{TOUCHED_MAX, Touched};
+use rs_adjin::Holders;
 use rs_octets::Prefix;
 use rs_rows::Lent;
 use std::alloc::{AllocError, Global};
@@ -59,31 +62,33 @@ fn is_own(row: Option<&Lent<'_>>, prefix: &Prefix) -> bool
     }
 }
 
-/// Decides a prefix, and lists it where something else is due than before. It is refused where the row
-/// of the number has another prefix.
+/// Decides a prefix that these clients hold, and lists it where something else is due than the row of its number has. It is
+/// refused where that has another prefix.
 fn decide_one<'a>(
     sources: &Sources<'a>,
     speech: Speech,
-    rows: &Rows,
+    row: Option<&Lent<'_>>,
     number: u32,
     prefix: Prefix,
+    holders: Holders<'a>,
     draft: &mut Draft<'a>,
     changes: &mut Vec<Change>,
 ) -> Result<(), AllocError>
     requires number { number_of sources.now.ins.now prefix ≡ Some number }
+    requires holders { ListsHolders sources.now.ins.now prefix (map (λ h. h.0) holders) }
+    requires notes { All (λ h. h.1 ≡ note_of_import sources.now.config.now h.0.0 prefix h.0.1) holders }
     requires server { AreOfOneServer sources.now }
     requires choices { AreChoices (held_by sources.now) sources.now.ins.now draft.old.choices.kept.items }
     requires memo { IsMemo sources.now.config.now sources.now.client draft.old.memo }
-    ensures decided { OnOk result (IsDecidedAt sources.now.ins.now (due_to (held_by sources.now) sources.now.client speech) rows.now.rows.items number changes.old.items changes.new.items) }
+    ensures decided { OnOk result ((rows : List (Option Row)) → row_at rows number ≡ option_map (λ row. lent_row row.now) row.entry → IsDecidedAt sources.now.ins.now (due_to (held_by sources.now) sources.now.client speech) rows number changes.old.items changes.new.items) }
     ensures choices { OnOk result (AreChoices (held_by sources.now) sources.now.ins.now draft.new.choices.kept.items) }
     ensures memo { OnOk result (IsMemo sources.now.config.now sources.now.client draft.new.memo) }
 {
-    let due = decide(sources, speech, number, &prefix, draft)?;
-    let row = rows.get(number);
-    if is_due(row.as_ref(), due.as_ref()) {
+    let due = decide(sources, speech, number, &prefix, holders, draft)?;
+    if is_due(row, due.as_ref()) {
         return Ok(());
     }
-    if !is_own(row.as_ref(), &prefix) {
+    if !is_own(row, &prefix) {
         return Err(AllocError);
     }
     let due = match due {
@@ -201,10 +206,21 @@ fn decide_number<'a>(
     let Some(prefix) = sources.ins.prefix(number) else {
         return Ok(false);
     };
-    if sources.ins.at_number(number).is_empty() && rows.get(number).is_none() {
+    let holders = sources.ins.at_number(number);
+    let row = rows.get(number);
+    if holders.is_empty() && row.is_none() {
         return Ok(false);
     }
-    decide_one(sources, speech, rows, number, prefix, draft, changes)?;
+    decide_one(
+        sources,
+        speech,
+        row.as_ref(),
+        number,
+        prefix,
+        holders,
+        draft,
+        changes,
+    )?;
     Ok(true)
 }
 

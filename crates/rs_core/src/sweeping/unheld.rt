@@ -4,13 +4,12 @@
 ghost use Rattle.std.specs.Prelude.{◌<◌};
 ghost use Rattle.rs_adjin.specs.AdjIns.{client_count};
 
+use crate::sweeping::SWEEP;
 use rs_adjin::AdjIns;
 use std::alloc::{AllocError, Global};
 
-/// How many numbers are listed at most, so that none asks for memory.
-const LISTED_MAX: usize = 4096;
-
-/// Numbers of prefixes that nobody held when they were listed.
+/// Numbers of prefixes that nobody held when they were listed: as many at most as a sweep goes over, so that none asks for
+/// memory.
 #[derive(Drop)]
 pub(crate) struct Unheld {
     listed: Vec<u32>,
@@ -22,7 +21,7 @@ impl Unheld {
     /// None is listed.
     pub(crate) fn new(alloc: Global) -> Result<Unheld, AllocError> {
         Ok(Unheld {
-            listed: Vec::with_capacity(alloc, LISTED_MAX)?,
+            listed: Vec::with_capacity(alloc, SWEEP)?,
             next: 0,
         })
     }
@@ -41,11 +40,14 @@ impl Unheld {
         }
     }
 
-    /// Lists numbers of the prefixes that this client holds and no other one, which it is about to lose.
+    /// Lists numbers of the prefixes that this client holds and no other one, which it is about to lose, while there is room.
     pub(crate) fn list_held(&mut self, tables: &AdjIns, c: usize)
         requires { c < client_count tables.now }
     {
         for (_prefix, number) in tables.held_by_number(c) {
+            if self.listed.len() == self.listed.capacity() {
+                return;
+            }
             if tables.at_number(number).len() == 1 {
                 self.push(number);
             }

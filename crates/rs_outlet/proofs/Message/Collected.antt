@@ -186,6 +186,9 @@ at_index (w ∷ ws) (suc n) below = at_index ws n (omega (arith, below))
 pub read_holds : (P : Wait → Type 0) (ws : List Wait) (n : ℕ) (w : Wait) → slice_get ws n ≡ Some w → HoldsAt P ws n → P w
 read_holds P ws n w at holds = subst P (get_or_from_slice_get ws n w w at) (holds w)
 
+pub there_holds : (P : Wait → Type 0) (ws : List Wait) (n : ℕ) (w : Wait) → slice_get ws n ≡ Some w → P w → HoldsAt P ws n
+there_holds P ws n w at p = λ d. subst P (sym (get_or_from_slice_get ws n w d at)) p
+
 pub least_both : (test : Wait → Bool) (ws zs ys : List Wait) (sorted gone first late size : ℕ) → zs ≡ ws → ys ≡ ws → size ≡ length ws → sorted ≤ length ws → BothRise sorted ws → AllWithin (λ w. test w ≡ false) (take sorted ws) 0 gone
     → AllWithin (λ w. test w ≡ false) (take sorted zs) gone first → (first < length (take sorted zs) → HoldsAt (λ w. test w ≡ true) (take sorted zs) first) → (sorted ≤ length ys → sorted ≤ late) → AllWithin (λ w. test w ≡ false) ys sorted late → (late < length ys → HoldsAt (λ w. test w ≡ true) ys late)
     → (o : Option ℕ) → IfSome o (λ n. n < size) → IfSome o (λ n. ((n ≡ first) × (n < sorted)) ⊎ (n ≡ late)) → IfSome o (λ n. IsLesser sorted first late ws n) → (o ≡ None → (sorted ≤ first) × (size ≤ late)) → IsLeast test ws o

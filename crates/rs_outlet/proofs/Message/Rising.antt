@@ -85,7 +85,7 @@ shared_announced rows m w is = go w.open w.due is
     go true due.Withdrawn h = absurd (let f : false ≡ true = h in cc)
     go true (due.Announced number hash) h = refl
 
-waits_shares : (rows : List (Option Row)) (m : List Attribute) (w : Wait) → WaitsFor rows m w → shares rows m w ≡ true
+pub waits_shares : (rows : List (Option Row)) (m : List Attribute) (w : Wait) → WaitsFor rows m w → shares rows m w ≡ true
 waits_shares rows m w is = (λ i. is.opened i && has_attributes (value (row_by rows w.due) is.said i) m) ∙ (attributes_decides m m).1 refl
   where
     value : (o : Option Row) → option_map (λ (r : Row). r.attributes) o ≡ Some m → shown o ≡ Some m

@@ -152,16 +152,18 @@ impl Waits {
     }
 
     /// Lists the prefixes that wait for these attributes and nothing else, from the least on: so many at
-    /// most. Notes what was passed over for it.
+    /// most. One slot is `known` to have them. Notes what was passed over for it.
     pub(crate) fn choose_announced(
         &mut self,
         rows: &Rows,
+        known: usize,
         attrs: &Arc<Attrs>,
         most: usize,
         chosen: &mut Vec<usize>,
         front: &mut Vec<Prefix>,
     )
         requires most { (most ≤ vec_capacity chosen.old) × (most ≤ vec_capacity front.old) }
+        requires known { HoldsAt (WaitsFor rows.now.rows.items (arc_value attrs.now)) self.old.slots.items known }
         requires backed { AreBacked rows.now.rows.items self.old.slots.items }
         requires chained { AreChained rows.now.rows.items (take self.old.sorted self.old.slots.items) self.old.chains.items }
         ensures chosen { vec_capacity chosen.new ≡ vec_capacity chosen.old }
@@ -174,22 +176,24 @@ impl Waits {
     {
         chosen.clear();
         front.clear();
-        let (passed, walked) = self.collect_announced(rows, attrs, most, chosen, front);
+        let (passed, walked) = self.collect_announced(rows, known, attrs, most, chosen, front);
         self.note_passed(passed);
         self.note_walked(walked, passed);
     }
 
-    /// Lists the prefixes that wait for these attributes, from the least on, as many as there is room for.
-    /// Answers how many slots of their hash it passed over, and how many of the first part it went through
-    /// that don't wait for them.
+    /// Lists the prefixes that wait for these attributes, from the least on, as many as there is room for; one slot is
+    /// `known` to have them. Answers how many slots of their hash it passed over, and how many of the first part it went
+    /// through that don't wait for them.
     fn collect_announced(
         &self,
         rows: &Rows,
+        known: usize,
         attrs: &Attrs,
         room: usize,
         chosen: &mut Vec<usize>,
         front: &mut Vec<Prefix>,
     ) -> (usize, usize)
+        requires known { HoldsAt (WaitsFor rows.now.rows.items attrs.now) self.now.slots.items known }
         ensures chosen { vec_capacity chosen.new ≡ vec_capacity chosen.old }
         ensures front { vec_capacity front.new ≡ vec_capacity front.old }
         ensures are { AreChosen rows.now.rows.items self.now.slots.items (Some attrs.now) chosen.old.items front.old.items → AreChosen rows.now.rows.items self.now.slots.items (Some attrs.now) chosen.new.items front.new.items }
@@ -207,7 +211,7 @@ impl Waits {
             let Some(slot) = self.lesser(first, late) else {
                 return (passed, walked);
             };
-            let listed = self.list_announced(rows, slot, attrs, chosen, front);
+            let listed = self.list_announced(rows, slot, known, attrs, chosen, front);
             if slot < self.sorted {
                 passed = passed.saturating_add(usize::from(self.is_passed(slot, hash, listed)));
                 walked = walked.saturating_add(usize::from(!listed));
@@ -219,16 +223,18 @@ impl Waits {
         (passed, walked)
     }
 
-    /// Lists the prefix of a slot, if it waits for these attributes. Answers whether it does.
+    /// Lists the prefix of a slot, if it waits for these attributes, as the one that is `known` does. Answers whether it does.
     fn list_announced(
         &self,
         rows: &Rows,
         slot: usize,
+        known: usize,
         attrs: &Attrs,
         chosen: &mut Vec<usize>,
         front: &mut Vec<Prefix>,
     ) -> bool
-        requires { slot < vec_len self.now.slots }
+        requires slot { slot < vec_len self.now.slots }
+        requires known { HoldsAt (WaitsFor rows.now.rows.items attrs.now) self.now.slots.items known }
         ensures waits { IsTrue result → HoldsAt (λ w. (w.open ≡ true) × (shown (row_by rows.now.rows.items w.due) ≡ Some attrs.now)) self.now.slots.items slot }
         ensures chosen { vec_capacity chosen.new ≡ vec_capacity chosen.old }
         ensures front { vec_capacity front.new ≡ vec_capacity front.old }
@@ -239,7 +245,7 @@ impl Waits {
         if !wait.open {
             return false;
         }
-        if !waits_for(rows, wait, attrs) {
+        if !waits_for(rows, wait, attrs, slot == known) {
             return false;
         }
         // for the prover: it is legal
@@ -329,14 +335,18 @@ fn list_slot(slot: usize, prefix: Prefix, chosen: &mut Vec<usize>, front: &mut V
     front.push_reserved(prefix);
 }
 
-/// Whether a slot waits for these attributes.
-fn waits_for(rows: &Rows, wait: &Wait, attrs: &Attrs) -> bool
+/// Whether a slot waits for these attributes; one of which that is known is not looked at.
+fn waits_for(rows: &Rows, wait: &Wait, attrs: &Attrs, is_known: bool) -> bool
+    requires { IsTrue is_known → WaitsFor rows.now.rows.items attrs.now wait.now }
     ensures said { IsTrue result → is_withdrawal wait.now.due ≡ false }
     ensures row { IsTrue result → HasRow rows.now.rows.items wait.now.prefix attrs.now }
     ensures due { IsTrue result → shown (row_by rows.now.rows.items wait.now.due) ≡ Some attrs.now }
     ensures all { WaitsFor rows.now.rows.items attrs.now wait.now → result ≡ true }
     ensures just { IsBacked rows.now.rows.items wait.now.prefix wait.now.due → result ≡ has_attributes (shown (row_by rows.now.rows.items wait.now.due)) attrs.now }
 {
+    if is_known {
+        return true;
+    }
     let Due::Announced { number, hash } = wait.due else {
         return false;
     };

@@ -15,14 +15,13 @@ map_copied f None = refl
 map_copied f (Some x) = refl
 
 pub returns-then-is_due-clause-decided : goal.returns-then-is_due-clause-decided
-returns-then-is_due-clause-decided c =
+returns-then-is_due-clause-decided c = λ rows there.
     let ins = c.args.sources.now.ins.now in
-    let rows = c.args.rows.now.rows.items in
     let due_at = due_to (held_by c.args.sources.now) c.args.sources.now.client c.args.speech in
     let n = c.args.number in
     let p = c.args.prefix in
     let at : attributes_at rows n ≡ due_at p =
-    ap shown (sym c.get-row.ensures ∙ ap (option_map lent_row) (sym c.as_ref.ensures.value) ∙ sym (map_copied lent_row c.as_ref.result))
-    ∙ c.is_due.ensures c.if-is_due.true ∙ map_copied attributes_passed c.as_ref-2.result
-    ∙ ap (option_map attributes_passed) c.as_ref-2.ensures.value ∙ c.in_ok-due.ensures.due in
-    decided_there ins due_at rows n p _ c.requires.number (λ q there. number_once ins q p n there c.requires.number) at
+    ap shown there
+    ∙ c.is_due.ensures c.if-is_due.true ∙ map_copied attributes_passed c.as_ref.result
+    ∙ ap (option_map attributes_passed) c.as_ref.ensures.value ∙ c.in_ok-due.ensures.due in
+    decided_there ins due_at rows n p _ c.requires.number (λ q at. number_once ins q p n at c.requires.number) at

@@ -1,6 +1,17 @@
-use Rattle.std.proofs.Common.{arith, sym}
+use Rattle.std.proofs.Common.{arith, sym, true}
+use Rattle.std.proofs.lemmas.Bool.{and_parts}
+use Rattle.rs_outlet.specs.Inside.{row_by, shown}
+use Rattle.rs_outlet.specs.Message.Next.{has_attributes}
 use Rattle.rs_outlet.proofs.Message.AllWaiting.{not_hashed}
+use Rattle.rs_outlet.proofs.Message.Rising.{waits_shares}
 use Rattle.rs_outlet.proofs.waiting.choosing.waits_for.Goals as goal
+
+pub returns-then-is_known-clause-just : goal.returns-then-is_known-clause-just
+returns-then-is_known-clause-just c = λ backed.
+    let rows = c.args.rows.now.rows.items in
+    let w = c.args.wait.now in
+    let m = c.args.attrs.now in
+    sym (and_parts w.open (has_attributes (shown (row_by rows w.due)) m) (waits_shares rows m w (c.requires c.if-is_known.true))).1
 
 pub returns-then-hash-kept_hash-clause-just : goal.returns-then-hash-kept_hash-clause-just
 returns-then-hash-kept_hash-clause-just c =
