@@ -214,6 +214,7 @@ impl Ribs {
         ensures outlet { ChangesOwn d (λ v w. AreNumbered v self.old.tables → IsTouchedWhereHeld self.old.tables c v w × AreNumbered w self.old.tables) self.old self.new }
     {
         let outlet = &mut self.outlets[d];
+        outlet.expect(self.tables.count(c));
         touch_all_of(outlet, &self.tables, c);
     }
 

@@ -189,6 +189,16 @@ impl Outlet {
         self.keepalive_due = true;
     }
 
+    /// So many prefixes are touched together next: there is room for them at once, unless memory is refused.
+    pub fn expect(&mut self, together: usize)
+        ensures { self.new ≡ self.old }
+    {
+        if self.speech.is_some() {
+            let most = self.most_listed(together);
+            self.touched.expect(together, most);
+        }
+    }
+
     /// What is due at this prefix, which has this number, is decided anew at the next turn. Where
     /// there is no room for it, everything is. So many are touched `together`: where these are more than
     /// half of all prefixes, the list does not grow, and all may be stale once it is full.

@@ -84,6 +84,17 @@ impl Touched {
         self.prefixes.push_reserved((number, prefix));
     }
 
+    /// Makes room for so many touches at once, where these are no more than `most`. Where memory is refused, it is made as
+    /// they come.
+    pub(crate) fn expect(&mut self, together: usize, most: usize)
+        ensures prefixes { self.new.prefixes.items ≡ self.old.prefixes.items }
+        ensures all { self.new.all ≡ self.old.all }
+    {
+        if !self.all && together <= most {
+            let _ = self.prefixes.reserve(together);
+        }
+    }
+
     /// Makes room for one more, if there is none.
     #[inline(always)]
     fn make_room(&mut self, most: usize)

@@ -126,14 +126,13 @@ impl Waits {
         self.waiting == 0 || self.sorted.saturating_mul(LATE) < late.saturating_mul(late)
     }
 
-    /// How much room is made for so many slots that are to be added: where they are many and there are no others,
-    /// as much as there is for these, if that is no more than twice as much, so that they can take their place.
+    /// How much room is made for so many slots that are to be added: where they are many and there are no others, as much as
+    /// there is for these, so that they can take their place. What is not written of it takes no memory.
     pub(crate) fn room_for(&self, more: usize) -> usize
         ensures { more ≤ result }
     {
-        let room = self.slots.capacity();
-        if self.slots.is_empty() && more > MANY && room / 2 <= more {
-            more.max(room)
+        if self.slots.is_empty() && more > MANY {
+            more.max(self.slots.capacity())
         } else {
             more
         }
