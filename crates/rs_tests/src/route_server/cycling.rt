@@ -76,20 +76,45 @@ fn withdraw(rt: &impl Abort, exchange: &mut Exchange, first: u32) {
     exchange.hear_octets(rt, A, &withdrawn);
 }
 
+/// The member announces more prefixes than one sweep goes over: six UPDATEs of them from a number on.
+fn announce_many(rt: &impl Abort, exchange: &mut Exchange, first: u32) {
+    for round in 0..6u32 {
+        announce(rt, exchange, round.wrapping_mul(EACH).wrapping_add(first));
+    }
+    exchange.core.turn();
+}
+
 #[test]
 fn withdrawn_prefixes_leave_their_numbers_at_the_next_turn(rt: HostRuntime) {
     let mut exchange = Exchange::of_both(&rt, rt.alloc(), "");
-    // There are more than one sweep goes over.
-    for round in 0..6u32 {
-        let first = round.wrapping_mul(EACH).wrapping_add(0x0a_0000);
-        announce(&rt, &mut exchange, first);
-    }
-    exchange.core.turn();
+    announce_many(&rt, &mut exchange, 0x0a_0000);
     let rows = exchange.core.rows();
     is_so(&rt, 6 * EACH as usize <= rows, "each has a row");
     withdraw(&rt, &mut exchange, 0x0a_0000 + 5 * EACH);
     exchange.core.turn();
     announce(&rt, &mut exchange, 0x0b_0000);
+    equals(&rt, exchange.core.rows(), rows);
+    equals(&rt, exchange.core.prefixes(), 6 * EACH as usize);
+    exchange.let_go();
+}
+
+#[test]
+fn more_prefixes_than_are_listed_leave_their_numbers_within_three_turns(rt: HostRuntime) {
+    let mut exchange = Exchange::of_both(&rt, rt.alloc(), "");
+    announce_many(&rt, &mut exchange, 0x0a_0000);
+    let rows = exchange.core.rows();
+    for round in 0..6u32 {
+        withdraw(
+            &rt,
+            &mut exchange,
+            round.wrapping_mul(EACH).wrapping_add(0x0a_0000),
+        );
+    }
+    // One sweep goes over those listed, two over all numbers.
+    for _ in 0..3 {
+        exchange.core.turn();
+    }
+    announce_many(&rt, &mut exchange, 0x0b_0000);
     equals(&rt, exchange.core.rows(), rows);
     equals(&rt, exchange.core.prefixes(), 6 * EACH as usize);
     exchange.let_go();
