@@ -58,6 +58,7 @@ QUICK = (
 )
 FULL = (
     Work("internet", 100, 1000, LATE + "internet"),
+    Work("internet", 200, 500, LATE + "internet"),
     Work("internet", 10, 100_000, LATE + "internet"),
     Work("deaf", 10, 100_000, "--deaf 1 --profile internet --phases a"),
     Work("alike", 10, 10_000, LATE + "overlap --degree 10"),
@@ -66,7 +67,7 @@ FULL = (
 # Those that play a work with rules: BIRD has the same in its language.
 WITH_FILTERS = {"ours", "bird", "bird-tables"}
 # What takes a server so long that it would take most of the time there is.
-TOO_SLOW = {("gobgp", kind, clients) for kind, clients in (("internet", 50), ("internet", 100), ("deaf", 10), ("alike", 10))} | {("gobgp", "internet 10x100k")}
+TOO_SLOW = {("gobgp", kind, clients) for kind, clients in (("internet", 50), ("internet", 100), ("internet", 200), ("deaf", 10), ("alike", 10))} | {("gobgp", "internet 10x100k")}
 # How long a server may take to read its configuration.
 STARTS = 60
 SKIPPED_AS_SLOW = "left out: it sends one prefix in each UPDATE, and takes minutes"

@@ -1,14 +1,15 @@
 """Draws the figures of docs/BENCH.md by the number of members: what servers take, and how long a single change takes.
 
-The works drawn are those of `internet` with 100,000 prefixes in all: 10 members with 10,000 each, 50 with 2,000, 100 with 1,000. A
-server that did not get to its end there has no point. A drawing is SVG with two sets of colours, for a light page and a dark one.
+The works drawn are those of `internet` with 100,000 prefixes in all: 10 members with 10,000 each, 50 with 2,000, 100 with 1,000, 200
+with 500. A server that did not get to its end there has no point. A drawing is SVG with two sets of colours, for a light page and a
+dark one.
 """
 import collections
 import math
 
 from figures import least
 
-WORKS = {10: "internet 10x10k", 50: "internet 50x2k", 100: "internet 100x1k"}
+WORKS = {10: "internet 10x10k", 50: "internet 50x2k", 100: "internet 100x1k", 200: "internet 200x500"}
 # Each server's name, its colours on a light page and on a dark one, the width of its line, and its dashes.
 SERVERS = {
     "ours": ("Tivrazel", "#0969da", "#58a6ff", 3, "none"),
@@ -58,7 +59,7 @@ def panel(rows, at, it):
     values = [value for line in (*lines.values(), *upper.values()) for value in line.values()]
     low, high = math.floor(math.log10(min(values))), math.ceil(math.log10(max(values)))
     left = LEFT + at * (WIDE + GAP)
-    x = lambda members: left + EDGE + (math.log10(members) - 1) * (WIDE - 2 * EDGE)
+    x = lambda members: left + EDGE + math.log(members / min(WORKS), max(WORKS) / min(WORKS)) * (WIDE - 2 * EDGE)
     y = lambda value: TOP + HIGH - (math.log10(value) - low) / (high - low) * HIGH
     yield f'<text x="{left}" y="{TOP - 14}" class="title">{it.title}</text>'
     for power in range(low, high + 1):
