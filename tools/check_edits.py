@@ -8,33 +8,16 @@ changed. Edits of one crate have different names, also in different folders, sin
 import collections
 import pathlib
 
-from must_fail import read_edit
+from must_fail import edited, read_edit
 from results import end, tell
 
 TOP = pathlib.Path(__file__).resolve().parent.parent
 FOLDERS = ("must-fail", "attacks")
 
 
-def applied(crate, changes):
-    """The texts of the files that these changes leave, by file; or what is wrong with them."""
-    texts = {}
-    for file, old, new in changes:
-        path = TOP / "crates" / crate / (file or "")
-        if not path.is_file():
-            return f"crates/{crate} has no file {file}"
-        text = texts.get(path) or path.read_text()
-        if not old or text.count(old) != 1:
-            return f"an `old:` text is in {file} {text.count(old) if old else 0} times, and not once: {old}"
-        texts[path] = text.replace(old, new)
-    return texts
-
-
 def wrong_with(path, crate):
     """What is wrong with an edit of a crate, or None."""
-    changes = read_edit(path).changes
-    if not changes:
-        return "it changes nothing"
-    texts = applied(crate, changes)
+    texts = edited(TOP / "crates" / crate, read_edit(path).changes)
     if isinstance(texts, str):
         return texts
     if all(path.read_text() == text for path, text in texts.items()):

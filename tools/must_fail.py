@@ -56,15 +56,30 @@ def edits_of(names):
     return [it for it in every if not names or it.crate in names or f"{it.crate}/{it.name}" in names]
 
 
+def edited(folder, changes):
+    """The texts that these changes leave of the files of the crate in this folder, by path; or what is wrong with them."""
+    texts = {}
+    for file, old, new in changes:
+        path = folder / (file or "")
+        if not path.is_file():
+            return f"there is no file {file}"
+        text = texts[path] if path in texts else path.read_text()
+        count = text.count(old) if old else 0
+        if count != 1:
+            return f"an `old:` text is in {file} {count} times, and not once: {old}"
+        texts[path] = text.replace(old, new)
+    return texts
+
+
 def apply(edit, folder):
     """Changes the crate in this folder; what is wrong with the edit, or None."""
     if not edit.function or not edit.changes:
         return "it names no function, or changes nothing"
-    for file, old, new in edit.changes:
-        text = (folder / file).read_text()
-        if text.count(old) != 1:
-            return f"an `old:` text is in {file} {text.count(old)} times, and not once"
-        (folder / file).write_text(text.replace(old, new))
+    texts = edited(folder, edit.changes)
+    if isinstance(texts, str):
+        return texts
+    for path, text in texts.items():
+        path.write_text(text)
     return None
 
 
