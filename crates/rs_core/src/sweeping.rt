@@ -24,24 +24,21 @@ impl Ribs {
         ensures outlets { self.new.outlets ≡ self.old.outlets }
         ensures kept { KeepsFresh self.old self.new }
     {
-        if !self.tables.has_unheld() {
-            return;
-        }
         for _step in 0..self.tables.numbers().min(SWEEP) {
+            if !self.tables.has_unheld() {
+                return;
+            }
             self.sweep_next();
         }
     }
 
-    /// Sweeps the next number, while there is one that nobody holds.
+    /// Sweeps the next number.
     fn sweep_next(&mut self)
         ensures settings { KeepsSettings self.old self.new }
         ensures tables { adj_ins.Same self.old.tables self.new.tables }
         ensures outlets { self.new.outlets ≡ self.old.outlets }
         ensures kept { KeepsFresh self.old self.new }
     {
-        if !self.tables.has_unheld() {
-            return;
-        }
         let number = self.unheld.next(&self.tables);
         self.give_up(number);
     }

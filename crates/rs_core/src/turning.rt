@@ -3,13 +3,13 @@
 ghost use Rattle.std.specs.Prelude.{◌≡◌, ◌<◌, ◌≤◌, ◌+◌, length};
 ghost use Rattle.rs_adjin.specs.AdjIns as adj_ins;
 ghost use Rattle.rs_core.specs.Touched.Turns.{IsMarked, IsTurn, refused_in};
-ghost use Rattle.rs_outlet.specs.Decided.Choices.{AreChoices};
+ghost use Rattle.rs_outlet.specs.Decided.Precedents.{IsHandover};
 ghost use Rattle.rs_outlet.specs.Decided.HeldBy.{tables_of};
 ghost use Rattle.rs_workers.specs.Turned.{AllTurnedAlone};
 
 use crate::ribs::Ribs;
 use crate::route_server::Core;
-use rs_outlet::{Choices, Last, note_all};
+use rs_outlet::{Handover, Last, note_all};
 use rs_policy::Config;
 use rs_workers::{Gate, turn_all};
 use std::sync::Wait;
@@ -62,9 +62,9 @@ impl Ribs {
         ensures turned { ChangesAll (λ c. IsTurn self.old.config self.old.tables) self.old self.new }
         ensures kept { KeepsFresh self.old self.new }
     {
-        let mut choices = Choices::new(*self.outlets.allocator());
+        let mut handover = Handover::new(*self.outlets.allocator());
         for c in 0..self.count {
-            self.turn_one(c, &mut choices);
+            self.turn_one(c, &mut handover);
         }
     }
 
@@ -90,16 +90,16 @@ impl Ribs {
     }
 
     /// A turn of one client. Whether memory was refused stands in `last`.
-    fn turn_one(&mut self, c: usize, choices: &mut Choices)
+    fn turn_one(&mut self, c: usize, handover: &mut Handover)
         requires c { c < outlet_count self.old }
-        requires choices { AreChoices (tables_of self.old.config self.old.tables) self.old.tables choices.old.kept.items }
+        requires handover { IsHandover (tables_of self.old.config self.old.tables) self.old.tables handover.old }
         ensures settings { KeepsSettings self.old self.new }
         ensures tables { self.new.tables ≡ self.old.tables }
         ensures outlet { ChangesOwn c (IsTurn self.old.config self.old.tables) self.old self.new }
-        ensures choices { AreChoices (tables_of self.old.config self.old.tables) self.old.tables choices.new.kept.items }
+        ensures handover { IsHandover (tables_of self.old.config self.old.tables) self.old.tables handover.new }
     {
         let outlet = &mut self.outlets[c];
-        let _ = outlet.turn(&self.tables, &self.config, choices);
+        let _ = outlet.turn(&self.tables, &self.config, handover);
     }
 
     /// The answers of the last turn.

@@ -12,6 +12,7 @@ pub mod Rests
 pub mod Memo
 pub mod OthersAlone
 pub mod Shared
+pub mod Precedents
 pub mod Lent
 pub mod Next
 pub mod Plain

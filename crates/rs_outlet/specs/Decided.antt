@@ -5,6 +5,7 @@ pub mod Alike
 pub mod HeldBy
 pub mod Passing
 pub mod Choices
+pub mod Precedents
 pub mod Memo
 pub mod Rests
 pub mod Turns

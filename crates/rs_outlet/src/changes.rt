@@ -161,6 +161,17 @@ fn prepare(rows: &mut Rows, changes: &[Change]) -> Result<(), AllocError>
     Ok(())
 }
 
+/// Room for so many slots that may wait beside others: as much as serves these best, or just as much as they take.
+fn room_beside(alloc: Global, waits: &Waits, count: usize) -> Result<Vec<Wait>, AllocError>
+    ensures none { IfOk result (λ fresh. fresh.items ≡ []) }
+    ensures room { IfOk result (λ fresh. count ≤ vec_capacity fresh) }
+{
+    match Vec::with_capacity(alloc, waits.room_for(count)) {
+        Ok(fresh) => Ok(fresh),
+        Err(_) => Vec::with_capacity(alloc, count),
+    }
+}
+
 /// Makes room for changes at numbers below one, and for all that may wait then.
 pub(crate) fn make_room(
     alloc: Global,
@@ -193,7 +204,7 @@ pub(crate) fn make_room(
         return Err(AllocError);
     };
     waits.reserve(count)?;
-    let fresh = Vec::with_capacity(alloc, waits.room_for(changes.len()))?;
+    let fresh = room_beside(alloc, waits, changes.len())?;
     Ok(fresh)
 }
 

@@ -23,7 +23,7 @@ pub(crate) struct Choice {
 
 /// Choices by rising number, as outlets go over what was touched.
 #[derive(Drop)]
-pub struct Choices {
+pub(crate) struct Choices {
     pub(crate) kept: Vec<Choice>,
     /// Where the next choice is looked for.
     next: usize,
@@ -45,7 +45,7 @@ fn first_from(kept: &[Choice], from: usize, number: u32) -> usize {
 
 impl Choices {
     /// No choice was made yet.
-    pub fn new(alloc: Global) -> Choices
+    pub(crate) fn new(alloc: Global) -> Choices
         ensures { result.kept.items ≡ [] }
     {
         Choices {

@@ -9,7 +9,8 @@
 //!   knows of its client, and what a turn answers; `sizes` says how much room a message has.
 //! - `touched` is what the next turn decides; `turn` decides it, by `deciding`, which says what is
 //!   due at one prefix, and `chosen`, which says whose route is the best; `memo` is what it leaves to the
-//!   next prefix, `choices` and `stripped` to the outlets that turn next.
+//!   next prefix, `choices` and `stripped` to the outlets that turn next, as `precedent` does: what was decided for a client serves
+//!   others. All of that is handed from one to the next by `handover`.
 //! - `changes` puts that into `rows`, the Loc-RIB by number in a `table` of blocks that outlets share, and into
 //!   `waiting`, what is to be sent: slots in two `parts`, of which `merging` makes one. `marking` makes all that was
 //!   told wait again.
@@ -26,10 +27,12 @@ mod choices;
 mod chosen;
 mod deciding;
 mod fill;
+mod handover;
 pub mod laws;
 mod memo;
 mod noting;
 mod outlet;
+mod precedent;
 mod queries;
 mod routes;
 mod rows;
@@ -44,7 +47,7 @@ mod waiting;
 mod written;
 
 pub use answers::{Last, Speech, Turned};
-pub use choices::Choices;
+pub use handover::Handover;
 pub use noting::note_all;
 pub use outlet::Outlet;
 pub use routes::Routes;

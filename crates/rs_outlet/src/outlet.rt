@@ -6,7 +6,7 @@ ghost use Rattle.std.specs.FinSet as set;
 ghost use Rattle.rs_octets.specs.Prefixes.{Prefix};
 ghost use Rattle.rs_outlet.specs.declared.answers.Speech.{Speech};
 ghost use Rattle.rs_outlet.specs.Decided.Due.{due_to};
-ghost use Rattle.rs_outlet.specs.Decided.Choices.{AreChoices};
+ghost use Rattle.rs_outlet.specs.Decided.Precedents.{IsHandover};
 ghost use Rattle.rs_outlet.specs.Decided.HeldBy.{tables_of};
 ghost use Rattle.rs_adjin.specs.declared.adj_ins.AdjIns.{AdjIns};
 ghost use Rattle.rs_adjin.specs.AdjIns.{client_count, number_of, AreNoted};
@@ -21,8 +21,8 @@ ghost use Rattle.rs_outlet.specs.Message.Begins.{BeginsUpdate};
 ghost use Rattle.rs_outlet.specs.Inside.{IsNoNumberOf};
 
 use crate::answers::{Last, Speech, Turned};
-use crate::choices::Choices;
 use crate::deciding::Sources;
+use crate::handover::Handover;
 use crate::sizes::{batch, room};
 use crate::table::Rows;
 use crate::touched::Touched;
@@ -246,17 +246,17 @@ impl Outlet {
 
     /// Decides what is touched; of a whole turn what is stale, as all else has what is due. Memory is
     /// refused only where the client is Established, and such a turn changes nothing but the answer of
-    /// the last turn. The choices are those of turns by these tables and rules.
+    /// the last turn. What other outlets' turns handed over is of these tables and rules.
     pub fn turn(
         &mut self,
         ins: &AdjIns,
         config: &Config,
-        choices: &mut Choices,
+        handover: &mut Handover,
     ) -> Result<Turned, AllocError>
         requires client { self.old.client < length config.now.clients }
         requires clients { client_count ins.now ≡ length config.now.clients }
         requires noted { AreNoted (note_of_import config.now) ins.now }
-        requires choices { AreChoices (tables_of config.now ins.now) ins.now choices.old.kept.items }
+        requires handover { IsHandover (tables_of config.now ins.now) ins.now handover.old }
         ensures client { self.new.client ≡ self.old.client }
         ensures extended { self.new.extended ≡ self.old.extended }
         ensures rest { self.new ≡ record self.old { loc = self.new.loc; told = self.new.told; touched = self.new.touched; stale = self.new.stale; marked = self.new.marked; waits = self.new.waits; numbers = self.new.numbers; last = self.new.last } }
@@ -268,7 +268,7 @@ impl Outlet {
         ensures refused_only_up { OnErr result (IsSome self.old.speech) }
         ensures numbered { AreNumbered self.old ins.now → AreNumbered self.new ins.now }
         ensures exact { AreNumbered self.old ins.now → WaitsAreExact self.old → WaitsAreExact self.new }
-        ensures choices { AreChoices (tables_of config.now ins.now) ins.now choices.new.kept.items }
+        ensures handover { IsHandover (tables_of config.now ins.now) ins.now handover.new }
     {
         let Some(speech) = self.speech else {
             let turned = Turned {
@@ -285,7 +285,7 @@ impl Outlet {
             alike: judges_prefixes_alike(config, self.client),
             plain: passes_plainly(config, self.client),
         };
-        match self.turn_up(speech, &sources, choices) {
+        match self.turn_up(speech, &sources, handover) {
             Ok(turned) => Ok(turned),
             Err(error) => {
                 self.last = Last::Refused;

@@ -5,7 +5,9 @@
 //! all are touched; but only those listed are stale, and the list gets room for twice as many. So
 //! a touch costs a push and a few steps of a sort, whichever prefixes a member chooses.
 
-ghost use Rattle.std.specs.Prelude.{◌≡◌, ◌↔◌, ◌⊎◌, ◌≤◌, ◌<◌, [], None, Some, true, false, length, nat_lt, vec_len, is_none, IsTrue, IfOk, IfSome};
+ghost use Rattle.std.specs.Prelude.{◌≡◌, ◌↔◌, ◌⊎◌, ◌≤◌, ◌<◌, [], None, Some, true, false, length, nat_eq, nat_lt, vec_len, is_none, IsTrue, IfOk, IfSome};
+ghost use Rattle.std.specs.List.{IsDistinct};
+ghost use Rattle.std.specs.Map.{keys_of};
 ghost use Rattle.std.specs.FinSet as set;
 ghost use Rattle.std.specs.Vec.{vec_capacity};
 ghost use Rattle.rs_adjin.specs.declared.adj_ins.AdjIns.{AdjIns};
@@ -181,11 +183,26 @@ impl Touched {
     }
 }
 
+/// Whether each number is greater than the one before it: most touches come so.
+fn do_rise(touches: &[(u32, Prefix)]) -> bool
+    ensures { IsTrue result → IsDistinct nat_eq (keys_of touches.now) }
+{
+    for index in 1..touches.len() {
+        if touches[index].0 <= touches[index - 1].0 {
+            return false;
+        }
+    }
+    true
+}
+
 /// Puts touches in the order of their numbers. A number that was touched several times is left once.
 fn put_in_order(touches: &mut Vec<(u32, Prefix)>)
     ensures once { AreOnce touches.old.items touches.new.items }
     ensures capacity { vec_capacity touches.new ≡ vec_capacity touches.old }
 {
+    if do_rise(touches) {
+        return;
+    }
     touches.sort_unstable_by_key(|touch| touch.0);
     touches.dedup_by_key(|touch| touch.0);
 }

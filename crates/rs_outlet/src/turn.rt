@@ -19,12 +19,14 @@ ghost use Rattle.rs_rows.specs.Rows.{Row, row_at};
 ghost use Rattle.rs_outlet.specs.Decided.Touching.{is_number_touched, is_numbered_in, touched_of};
 ghost use Rattle.rs_outlet.specs.Decided.Choices.{AreChoices};
 ghost use Rattle.rs_outlet.specs.Decided.Memo.{IsMemo};
+ghost use Rattle.rs_outlet.specs.Decided.Precedents.{IsHandover};
 ghost use Rattle.rs_outlet.specs.Decided.Passing.{attributes_passed};
 
 use crate::answers::{Last, Speech, Turned};
 use crate::changes::{Change, commit, make_room};
 use crate::choices::Choices;
 use crate::deciding::{Draft, Passed, Sources, decide};
+use crate::handover::Handover;
 use crate::outlet::Outlet;
 use crate::table::Rows;
 use crate::touched::{TOUCHED_MAX, Touched};
@@ -105,7 +107,7 @@ fn decide_one<'a>(
 
 /// Decides what was touched by itself: at each number the prefix that the tables have there. That is the
 /// prefix that was touched as long as it keeps its number, and no condition asks for that here.
-fn decide_touched(
+pub(crate) fn decide_touched(
     alloc: Global,
     sources: &Sources<'_>,
     speech: Speech,
@@ -154,18 +156,18 @@ fn decide_stale(
     speech: Speech,
     rows: &Rows,
     touched: &[(u32, Prefix)],
-    choices: &mut Choices,
+    handover: &mut Handover,
 ) -> Result<Decided, AllocError>
     requires server { AreOfOneServer sources.now }
-    requires choices { AreChoices (held_by sources.now) sources.now.ins.now choices.old.kept.items }
+    requires handover { IsHandover (held_by sources.now) sources.now.ins.now handover.old }
     requires once { IsDistinct nat_eq (keys_of touched.now) }
-    ensures choices { AreChoices (held_by sources.now) sources.now.ins.now choices.new.kept.items }
+    ensures handover { IsHandover (held_by sources.now) sources.now.ins.now handover.new }
     ensures changes { IfOk result (λ decided. AreDecided sources.now.ins.now (due_to (held_by sources.now) sources.now.client speech) rows.now.rows.items (is_numbered_in touched.now) decided.changes.items) }
     ensures whole { IfOk result (λ decided. decided.whole ≡ nat_lt 4096 (length touched.now)) }
     ensures count { IfOk result (λ decided. decided.whole ≡ false → decided.count ≡ length touched.now) }
     ensures all { HaveNumbers touched.now sources.now.ins.now → AreFresh sources.now.ins.now (due_to (held_by sources.now) sources.now.client speech) rows.now.rows.items (is_numbered_in touched.now) → IfOk result (λ decided. decided.whole ≡ true → IsNumberOf (is_counted sources.now.ins.now rows.now.rows.items (any_holds (held_by sources.now))) decided.count) }
 {
-    let changes = decide_touched(alloc, sources, speech, rows, touched, choices)?;
+    let changes = handover.decide(alloc, sources, speech, rows, touched)?;
     if touched.len() <= TOUCHED_MAX {
         return Ok(Decided {
             changes,
@@ -265,19 +267,19 @@ fn decide_all_touched(
     speech: Speech,
     rows: &Rows,
     touched: &Touched,
-    choices: &mut Choices,
+    handover: &mut Handover,
 ) -> Result<Decided, AllocError>
     requires server { AreOfOneServer sources.now }
-    requires choices { AreChoices (held_by sources.now) sources.now.ins.now choices.old.kept.items }
-    ensures choices { AreChoices (held_by sources.now) sources.now.ins.now choices.new.kept.items }
+    requires handover { IsHandover (held_by sources.now) sources.now.ins.now handover.old }
+    ensures handover { IsHandover (held_by sources.now) sources.now.ins.now handover.new }
     ensures changes { IfOk result (λ decided. AreDecided sources.now.ins.now (due_to (held_by sources.now) sources.now.client speech) rows.now.rows.items (is_number_touched touched.now.all touched.now.prefixes.items) decided.changes.items) }
     ensures whole { HaveNumbers touched.now.prefixes.items sources.now.ins.now → IfOk result (λ decided. decided.whole ≡ is_whole (touched_of touched.now.all touched.now.prefixes.items)) }
     ensures count { HaveNumbers touched.now.prefixes.items sources.now.ins.now → IfOk result (λ decided. (prefixes : Prefixes) → touched_of touched.now.all touched.now.prefixes.items ≡ Some prefixes → decided.count ≡ set.len prefixes) }
     ensures all { HaveNumbers touched.now.prefixes.items sources.now.ins.now → AreFresh sources.now.ins.now (due_to (held_by sources.now) sources.now.client speech) rows.now.rows.items (is_number_touched touched.now.all touched.now.prefixes.items) → IfOk result (λ decided. decided.whole ≡ true → IsNumberOf (is_counted sources.now.ins.now rows.now.rows.items (any_holds (held_by sources.now))) decided.count) }
 {
     match touched.list(alloc)? {
-        None => decide_all(alloc, sources, speech, rows, choices),
-        Some(list) => decide_stale(alloc, sources, speech, rows, &list, choices),
+        None => decide_all(alloc, sources, speech, rows, &mut handover.choices),
+        Some(list) => decide_stale(alloc, sources, speech, rows, &list, handover),
     }
 }
 
@@ -288,12 +290,12 @@ impl Outlet {
         &mut self,
         speech: Speech,
         sources: &Sources<'_>,
-        choices: &mut Choices,
+        handover: &mut Handover,
     ) -> Result<Turned, AllocError>
         requires speech { self.old.speech ≡ Some speech }
         requires own { sources.now.client ≡ self.old.client }
         requires server { AreOfOneServer sources.now }
-        requires choices { AreChoices (held_by sources.now) sources.now.ins.now choices.old.kept.items }
+        requires handover { IsHandover (held_by sources.now) sources.now.ins.now handover.old }
         ensures client { self.new.client ≡ self.old.client }
         ensures extended { self.new.extended ≡ self.old.extended }
         ensures rest { self.new ≡ record self.old { loc = self.new.loc; told = self.new.told; touched = self.new.touched; stale = self.new.stale; marked = self.new.marked; waits = self.new.waits; numbers = self.new.numbers; last = self.new.last } }
@@ -309,7 +311,7 @@ impl Outlet {
         ensures exact { AreNumbered self.old sources.now.ins.now → WaitsAreExact self.old → OnOk result (WaitsAreExact self.new) }
         ensures refused { OnErr result (self.new ≡ self.old) }
         ensures numbered { AreNumbered self.old sources.now.ins.now → AreNumbered self.new sources.now.ins.now }
-        ensures choices { AreChoices (held_by sources.now) sources.now.ins.now choices.new.kept.items }
+        ensures handover { IsHandover (held_by sources.now) sources.now.ins.now handover.new }
     {
         let Decided {
             changes,
@@ -321,7 +323,7 @@ impl Outlet {
             speech,
             &self.rows,
             &self.touched,
-            choices,
+            handover,
         )?;
         let turned = Turned {
             decided: count,
@@ -341,7 +343,7 @@ impl Outlet {
             &mut self.waits,
             changes,
             fresh,
-            &mut choices.sorting,
+            &mut handover.choices.sorting,
         );
         self.touched.clear();
         self.last = Last::Done(turned);

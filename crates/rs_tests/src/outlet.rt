@@ -17,7 +17,7 @@ use rs_adjin::AdjIns;
 use rs_attrs::{Attrs, Mode};
 use rs_octets::Prefix;
 use rs_open::Limit;
-use rs_outlet::{Choices, Last, Outlet, Turned, Written};
+use rs_outlet::{Handover, Last, Outlet, Turned, Written};
 use rs_policy::{Config, import_note};
 use std::alloc::{AllocError, Global};
 use std::ops::Range;
@@ -137,8 +137,8 @@ impl Exchange {
     fn turn(&self, rt: &impl Abort, outlet: &mut Outlet) -> Result<Turned, AllocError> {
         assert!(rt; outlet.client() < self.config.clients());
         assert!(rt; self.tables.clients() == self.config.clients());
-        let mut choices = Choices::new(self.alloc);
-        outlet.turn(&self.tables, &self.config, &mut choices)
+        let mut handover = Handover::new(self.alloc);
+        outlet.turn(&self.tables, &self.config, &mut handover)
     }
 
     /// A turn decides so much.

@@ -3,14 +3,14 @@
 ghost use Rattle.std.specs.Prelude.{◌≡◌, ◌<◌, ◌≤◌, length};
 ghost use Rattle.rs_adjin.specs.AdjIns.{client_count, AreNoted};
 ghost use Rattle.rs_policy.specs.Noted.{note_of_import};
-ghost use Rattle.rs_outlet.specs.Decided.Choices.{AreChoices};
+ghost use Rattle.rs_outlet.specs.Decided.Precedents.{IsHandover};
 ghost use Rattle.rs_outlet.specs.Decided.HeldBy.{tables_of};
 ghost use Rattle.rs_workers.specs.Turned.{ArePlaced, AllTurnedAlone, TurnedAlone};
 
 use crate::gate::Gate;
 use crate::sharing::share_at;
 use rs_adjin::AdjIns;
-use rs_outlet::{Choices, Outlet};
+use rs_outlet::{Handover, Outlet};
 use rs_policy::Config;
 use std::alloc::Global;
 use std::sync::Wait;
@@ -62,21 +62,21 @@ pub(crate) fn turn_share<G: Gate>(
     ensures { AllTurnedAlone config.now tables.now outlets.old outlets.new }
 {
     gate.enter(share);
-    let mut choices = Choices::new(alloc);
+    let mut handover = Handover::new(alloc);
     for k in 0..outlets.len() {
-        turn_one(&mut outlets[k], tables, config, &mut choices);
+        turn_one(&mut outlets[k], tables, config, &mut handover);
         share_at(outlets, k);
     }
 }
 
 /// Turns one outlet. Whether memory was refused stands in its `last`.
-fn turn_one(outlet: &mut Outlet, tables: &AdjIns, config: &Config, choices: &mut Choices)
+fn turn_one(outlet: &mut Outlet, tables: &AdjIns, config: &Config, handover: &mut Handover)
     requires clients { client_count tables.now ≡ length config.now.clients }
     requires noted { AreNoted (note_of_import config.now) tables.now }
     requires place { outlet.old.client < length config.now.clients }
-    requires choices { AreChoices (tables_of config.now tables.now) tables.now choices.old.kept.items }
+    requires handover { IsHandover (tables_of config.now tables.now) tables.now handover.old }
     ensures turned { TurnedAlone config.now tables.now outlet.old outlet.new }
-    ensures choices { AreChoices (tables_of config.now tables.now) tables.now choices.new.kept.items }
+    ensures handover { IsHandover (tables_of config.now tables.now) tables.now handover.new }
 {
-    let _ = outlet.turn(tables, config, choices);
+    let _ = outlet.turn(tables, config, handover);
 }

@@ -33,7 +33,7 @@ impl Unheld {
         }
     }
 
-    /// Lists the number of a prefix that lost a route, if it has none.
+    /// Lists the number of a prefix that lost a route, if none is left.
     pub(crate) fn list(&mut self, tables: &AdjIns, number: u32) {
         if tables.at_number(number).is_empty() {
             self.push(number);

@@ -35,7 +35,7 @@ pub rank_alike : (t : Held) (c d : ℕ) (p : Prefix) (h : ℕ × List Attribute)
 rank_alike t c d p h alike known one other = λ i.
     cond (((differs h.0 c one ∙ sym (differs h.0 d other)) i) || path_has_of t.settings.top.server_as h.1) None (rank_by t h.0 h.1 (alike h.0 p h.1 known i))
 
-ranks_alike : (t : Held) (c d : ℕ) (p : Prefix) (hs : List (ℕ × List Attribute)) → AreJudgedAlike t c d → t.held c p ≡ None → t.held d p ≡ None
+pub ranks_alike : (t : Held) (c d : ℕ) (p : Prefix) (hs : List (ℕ × List Attribute)) → AreJudgedAlike t c d → t.held c p ≡ None → t.held d p ≡ None
     → AllByRecursion (λ h. h.0 < length t.settings.clients) hs → AllByRecursion (λ h. t.held h.0 p ≡ Some h.1) hs → ranks_among t c p hs ≡ ranks_among t d p hs
 ranks_alike t c d p [] alike none nor known each = refl
 ranks_alike t c d p (h ∷ hs) alike none nor known each = λ i.

@@ -1,5 +1,5 @@
 -- The list of touched prefixes: what it says, what a touch more makes of it, and what is left once it is in order.
-use Rattle.std.proofs.Common.{inl, inr, ◌≡◌, ◌∙◌, ◌↔◌, ◌<◌, ℕ, Bool, true, false, cond, not, ◌||◌, nat_eq, nat_lt, Option, None, Some, List, [], ◌∷◌, ◌++◌, length, ◌+◌, refl, sym, ap, subst, arith}
+use Rattle.std.proofs.Common.{inl, inr, ◌≡◌, ◌∙◌, ◌↔◌, ◌<◌, ◌≤◌, ◌-◌, ℕ, zero, suc, Bool, true, false, cond, not, ◌||◌, nat_eq, nat_lt, Option, None, Some, List, [], ◌∷◌, ◌++◌, length, get_or, ◌+◌, refl, sym, ap, subst, arith}
 use mathlib.Core.Bool.{true≢false}
 use Rattle.std.specs.List.{AllByRecursion, IsDistinct, dedup, dedup_from, list_any}
 use Rattle.std.specs.List.Sorted.{IsPermutation, IsSorted, IsStrictlySortedBy}
@@ -13,14 +13,14 @@ use Rattle.std.proofs.lemmas.Bool.Decides.{nat_tests}
 use Rattle.std.proofs.lemmas.Cmp.{on_total, tied_itself}
 use Rattle.std.proofs.lemmas.List.Kept.{IsStrictlySortedBy-dedup}
 use Rattle.std.proofs.lemmas.List.Sorted.{IsPermutation-map, list_any-IsPermutation}
-use Rattle.std.proofs.lemmas.Bool.{eqb-true, or_right}
+use Rattle.std.proofs.lemmas.Bool.{cases_eq, eqb-true, or_right}
 use Rattle.std.proofs.lemmas.Option.{same_Some}
 use Rattle.rs_octets.specs.Prefixes.{Prefix, prefix_order}
 use Rattle.rs_adjin.specs.declared.adj_ins.AdjIns.{AdjIns}
 use Rattle.rs_adjin.specs.AdjIns.{number_of}
 use Rattle.rs_outlet.specs.Views.{HaveNumbers, Prefixes, is_touched, is_whole, with_touch}
 use Rattle.rs_outlet.specs.Decided.Touching.{AreOnce, MayAdd, is_numbered_in, prefixes_in, stale_of, touched_by, touched_of}
-use Rattle.std.specs.Prelude.{◌⊎◌, option_map}
+use Rattle.std.specs.Prelude.{◌⊎◌, option_map, slice_get}
 use Rattle.rs_outlet.proofs.Pending.Deduped.{any_deduped}
 use Rattle.rs_adjin.proofs.Listed.{exact_prefixes, prefixes_total}
 use Rattle.rs_outlet.proofs.Decided.Touches.{contains-from_list, prefix_eq, prefix_eq-cmp, prefix_eq-is, unsigned}
@@ -182,6 +182,50 @@ rising_once : (es : List Entry) → IsStrictlySortedBy by_number es → IsDistin
 unfolding IsStrictlySortedBy IsDistinct
 rising_once [] h = tt
 rising_once (e ∷ es) h = (all_apart e.0 es h.0, rising_once es h.1)
+
+-- below an index each number is greater than the one before it
+abbrev pub RisesBelow : ℕ → List Entry → Type 0
+RisesBelow n es = (k : ℕ) (e f : Entry) → suc k < n → slice_get es k ≡ Some e → slice_get es (suc k) ≡ Some f → e.0 < f.0
+
+abbrev pub Rises : List Entry → Type 0
+Rises es = (k : ℕ) (e f : Entry) → slice_get es k ≡ Some e → slice_get es (suc k) ≡ Some f → e.0 < f.0
+
+above_apart : (n : ℕ) (es : List Entry) → ((f : Entry) → slice_get es 0 ≡ Some f → n < f.0) → Rises es → AllByRecursion (λ m. nat_eq n m ≡ false) (keys_of es)
+above_apart n [] first up = tt
+above_apart n (e ∷ es) first up = (
+  let below : n < e.0 = first e refl in grind (arith, nat_tests, below),
+  above_apart n es (λ f is. omega (arith, first e refl, up 0 e f refl is)) (λ k. up (suc k)),
+)
+
+pub rises_once : (es : List Entry) → Rises es → IsDistinct nat_eq (keys_of es)
+unfolding IsDistinct
+rises_once [] up = tt
+rises_once (e ∷ es) up = (above_apart e.0 es (λ f is. up 0 e f refl is) (λ k. up (suc k)), rises_once es (λ k. up (suc k)))
+
+read_at : (es : List Entry) (n : ℕ) (e d : Entry) → slice_get es n ≡ Some e → get_or es n d ≡ e
+read_at [] n e d is = absurd (cc is)
+read_at (x ∷ es) zero e d is = same_Some x e is
+read_at (x ∷ es) (suc n) e d is = read_at es n e d is
+
+read_within : (es : List Entry) (n : ℕ) (e : Entry) → slice_get es n ≡ Some e → n < length es
+read_within [] n e is = absurd (cc is)
+read_within (x ∷ es) zero e is = omega arith
+read_within (x ∷ es) (suc n) e is = omega (arith, read_within es n e is)
+
+-- one index further
+pub rises_more : (es : List Entry) (n : ℕ) (c d : Entry) → RisesBelow n es → (get_or es (n - 1) c).0 < (get_or es n d).0 → RisesBelow (n + 1) es
+rises_more es n c d up step k e f below at next = elim (cases_eq (suc k) n) [
+  | inl last ↦
+      let before : n - 1 ≡ k = omega (arith, last) in
+      let one : get_or es (n - 1) c ≡ e = ap (λ m. get_or es m c) before ∙ read_at es k e c at in
+      let two : get_or es n d ≡ f = ap (λ m. get_or es m d) (sym last) ∙ read_at es (suc k) f d next in
+      omega (arith, step, ap (λ (x : Entry). x.0) one, ap (λ (x : Entry). x.0) two)
+  | inr other ↦ up k e f (omega (arith, below, other)) at next
+]
+
+-- to the end
+pub rises_all : (es : List Entry) (n : ℕ) → length es ≤ n → RisesBelow n es → Rises es
+rises_all es n all up k e f at next = up k e f (omega (arith, all, read_within es (suc k) f next)) at next
 
 numbered_once : (n : ℕ) (es : List Entry) → is_numbered_in (dedup same_number es) n ≡ is_numbered_in es n
 numbered_once n es = any_deduped (λ (e : Entry). e.0) same_number (λ e f t. eqb-true e.0 f.0 t) (nat_eq n) es

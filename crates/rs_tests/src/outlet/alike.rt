@@ -1,13 +1,13 @@
 //! Clients to which the same rules apply are told of one copy of what these leave of a route, and have one copy of their rows.
 
-ghost use Rattle.rs_outlet.specs.Decided.Choices.{AreChoices};
+ghost use Rattle.rs_outlet.specs.Decided.Precedents.{IsHandover};
 ghost use Rattle.rs_outlet.specs.Decided.HeldBy.{tables_of};
 
 use super::{CLIENT, Exchange, SENDER, drain, let_go, prefix, some};
 use crate::common::{equals, shared};
 use rs_attrs::{Attrs, Mode};
 use rs_open::Limit;
-use rs_outlet::{Choices, Outlet};
+use rs_outlet::{Handover, Outlet};
 use std::alloc::Global;
 use std::process::Abort;
 use std::sync::Arc;
@@ -80,16 +80,16 @@ fn announce(rt: &impl Abort, exchange: &mut Exchange, sets: u8, other: u8, rises
 }
 
 /// The outlet of a client, turned by these choices.
-fn turned(rt: &impl Abort, exchange: &Exchange, client: usize, choices: &mut Choices) -> Outlet
-    requires { AreChoices (tables_of exchange.now.config exchange.now.tables) exchange.now.tables choices.old.kept.items }
-    ensures { AreChoices (tables_of exchange.now.config exchange.now.tables) exchange.now.tables choices.new.kept.items }
+fn turned(rt: &impl Abort, exchange: &Exchange, client: usize, handover: &mut Handover) -> Outlet
+    requires { IsHandover (tables_of exchange.now.config exchange.now.tables) exchange.now.tables handover.old }
+    ensures { IsHandover (tables_of exchange.now.config exchange.now.tables) exchange.now.tables handover.new }
 {
     let mut outlet = Outlet::new(exchange.alloc, client, false).expect(rt, "an outlet");
     outlet.up(Mode::Four, Limit::Short);
     assert!(rt; outlet.client() < exchange.config.clients());
     assert!(rt; exchange.tables.clients() == exchange.config.clients());
     outlet
-        .turn(&exchange.tables, &exchange.config, choices)
+        .turn(&exchange.tables, &exchange.config, handover)
         .expect(rt, "a turn");
     outlet
 }
@@ -114,11 +114,11 @@ fn host_of(rt: &impl Abort, exchange: &Exchange, outlet: &Outlet) -> u32 {
 fn clients_share_what_rules_left(rt: HostRuntime) {
     let mut exchange = Exchange::of(&rt, rt.alloc(), STRIPPED);
     announce(&rt, &mut exchange, SETS, 2, false);
-    let mut choices = Choices::new(rt.alloc());
-    let first = turned(&rt, &exchange, CLIENT, &mut choices);
-    let alike = turned(&rt, &exchange, CLIENT + 1, &mut choices);
-    let other = turned(&rt, &exchange, CLIENT + 2, &mut choices);
-    drop(choices);
+    let mut handover = Handover::new(rt.alloc());
+    let first = turned(&rt, &exchange, CLIENT, &mut handover);
+    let alike = turned(&rt, &exchange, CLIENT + 1, &mut handover);
+    let other = turned(&rt, &exchange, CLIENT + 2, &mut handover);
+    drop(handover);
     have_owners(&rt, &exchange, &first, SETS, 4);
     have_owners(&rt, &exchange, &alike, SETS, 4);
     have_owners(&rt, &exchange, &other, SETS, 2);
@@ -130,11 +130,11 @@ fn clients_share_what_rules_left(rt: HostRuntime) {
 fn outlets_share_the_same_rows_alone(rt: HostRuntime) {
     let mut exchange = Exchange::of(&rt, rt.alloc(), STRIPPED);
     announce(&rt, &mut exchange, SETS, 2, false);
-    let mut choices = Choices::new(rt.alloc());
-    let mut first = turned(&rt, &exchange, CLIENT, &mut choices);
-    let mut alike = turned(&rt, &exchange, CLIENT + 1, &mut choices);
-    let mut other = turned(&rt, &exchange, CLIENT + 2, &mut choices);
-    drop(choices);
+    let mut handover = Handover::new(rt.alloc());
+    let mut first = turned(&rt, &exchange, CLIENT, &mut handover);
+    let mut alike = turned(&rt, &exchange, CLIENT + 1, &mut handover);
+    let mut other = turned(&rt, &exchange, CLIENT + 2, &mut handover);
+    drop(handover);
     share_rows(&mut first, &mut alike);
     other.adopt(&first);
     other.settle();
@@ -149,10 +149,10 @@ fn outlets_share_the_same_rows_alone(rt: HostRuntime) {
 fn shared_rows_are_written_apart(rt: HostRuntime) {
     let mut exchange = Exchange::of(&rt, rt.alloc(), STRIPPED);
     announce(&rt, &mut exchange, SETS, 2, false);
-    let mut choices = Choices::new(rt.alloc());
-    let mut first = turned(&rt, &exchange, CLIENT, &mut choices);
-    let mut alike = turned(&rt, &exchange, CLIENT + 1, &mut choices);
-    drop(choices);
+    let mut handover = Handover::new(rt.alloc());
+    let mut first = turned(&rt, &exchange, CLIENT, &mut handover);
+    let mut alike = turned(&rt, &exchange, CLIENT + 1, &mut handover);
+    drop(handover);
     share_rows(&mut first, &mut alike);
     let changed = attrs(&rt, exchange.alloc, SETS, 3);
     exchange.announce(&rt, 0, &changed);
@@ -190,10 +190,10 @@ fn take_back(rt: &impl Abort, exchange: &mut Exchange, count: u32) {
 fn what_two_were_told_is_there_once(rt: HostRuntime) {
     let mut exchange = Exchange::of(&rt, rt.alloc(), STRIPPED);
     announce(&rt, &mut exchange, SETS, 2, false);
-    let mut choices = Choices::new(rt.alloc());
-    let mut first = turned(&rt, &exchange, CLIENT, &mut choices);
-    let mut alike = turned(&rt, &exchange, CLIENT + 1, &mut choices);
-    drop(choices);
+    let mut handover = Handover::new(rt.alloc());
+    let mut first = turned(&rt, &exchange, CLIENT, &mut handover);
+    let mut alike = turned(&rt, &exchange, CLIENT + 1, &mut handover);
+    drop(handover);
     share_rows(&mut first, &mut alike);
     let told = owner(&rt, &exchange, &first);
     drain(&rt, &mut exchange, &mut first);
@@ -219,9 +219,9 @@ fn what_two_were_told_is_there_once(rt: HostRuntime) {
 fn prefixes_share_what_any_of_many_strips_left(rt: HostRuntime) {
     let mut exchange = Exchange::of(&rt, rt.alloc(), MANY_STRIPS);
     announce(&rt, &mut exchange, STRIPS, 100, true);
-    let mut choices = Choices::new(rt.alloc());
-    let outlet = turned(&rt, &exchange, CLIENT, &mut choices);
-    drop(choices);
+    let mut handover = Handover::new(rt.alloc());
+    let outlet = turned(&rt, &exchange, CLIENT, &mut handover);
+    drop(handover);
     have_owners(&rt, &exchange, &outlet, STRIPS, 2);
     let_go(exchange, outlet);
 }

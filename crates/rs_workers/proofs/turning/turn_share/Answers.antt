@@ -12,5 +12,5 @@ loop-k-preserved g c =
     let outlets = sym c.share_at.ensures in (
       λ j d le. subst (λ (xs : List View). get_or xs j d ≡ get_or c.args.outlets.now j d) outlets (walked.0 j d le),
       λ j d below. subst (λ (xs : List View). TurnedAlone c.args.config.now c.args.tables.now (get_or c.args.outlets.now j d) (get_or xs j d)) outlets (walked.1 j d below),
-      c.turn_one.ensures.choices,
+      c.turn_one.ensures.handover,
     )

@@ -1,0 +1,114 @@
+//! What the turn of one outlet hands over to the next: choices, and what was decided, as far as that serves another client.
+
+ghost use Rattle.std.specs.Prelude.{nat_eq, IfOk, IfSome};
+ghost use Rattle.std.specs.List.{IsDistinct};
+ghost use Rattle.std.specs.Map.{keys_of};
+ghost use Rattle.rs_outlet.specs.Inside.{AreDecided};
+ghost use Rattle.rs_adjin.specs.declared.adj_ins.AdjIns.{AdjIns};
+ghost use Rattle.rs_outlet.specs.Decided.Due.{Held, due_to};
+ghost use Rattle.rs_outlet.specs.Decided.HeldBy.{held_by, AreOfOneServer};
+ghost use Rattle.rs_outlet.specs.Decided.Precedents.{IsHandover};
+ghost use Rattle.rs_outlet.specs.Decided.Touching.{is_numbered_in};
+
+use crate::answers::Speech;
+use crate::changes::Change;
+use crate::choices::Choices;
+use crate::deciding::Sources;
+use crate::precedent::Precedent;
+use crate::table::Rows;
+use crate::turn::decide_touched;
+use rs_octets::Prefix;
+use std::alloc::{AllocError, Global};
+
+/// With how many prefixes what was decided is kept: fewer are decided as quickly.
+const FEWEST: usize = 8;
+
+/// What the turns of neighbouring outlets, one after the other, leave to the next.
+#[derive(Drop)]
+pub struct Handover {
+    pub(crate) choices: Choices,
+    pub(crate) precedent: Option<Precedent>,
+}
+
+impl Handover {
+    /// No outlet was turned yet.
+    pub fn new(alloc: Global) -> Handover
+        ensures { (t : Held) (ins : AdjIns) → IsHandover t ins result }
+    {
+        Handover {
+            choices: Choices::new(alloc),
+            precedent: None,
+        }
+    }
+
+    /// Keeps what was decided for a client at these prefixes, where it can serve others and nothing that was decided at the same
+    /// ones is kept. Where memory is refused, it is not kept.
+    fn keep(
+        &mut self,
+        alloc: Global,
+        sources: &Sources<'_>,
+        speech: Speech,
+        rows: &Rows,
+        touched: &[(u32, Prefix)],
+        changes: &[Change],
+    )
+        requires server { AreOfOneServer sources.now }
+        requires handover { IsHandover (held_by sources.now) sources.now.ins.now self.old }
+        requires decided { AreDecided sources.now.ins.now (due_to (held_by sources.now) sources.now.client speech) rows.now.rows.items (is_numbered_in touched.now) changes.now }
+        ensures { IsHandover (held_by sources.now) sources.now.ins.now self.new }
+    {
+        if touched.len() < FEWEST {
+            return;
+        }
+        if let Some(precedent) = &self.precedent
+            && precedent.is_of(touched)
+        {
+            return;
+        }
+        if let Ok(Some(made)) = Precedent::of(alloc, sources, speech, rows, touched, changes) {
+            self.precedent = Some(made);
+        }
+    }
+
+    /// What is decided at these prefixes by what was decided before, if that tells.
+    fn changes_for(
+        &self,
+        alloc: Global,
+        sources: &Sources<'_>,
+        speech: Speech,
+        rows: &Rows,
+        touched: &[(u32, Prefix)],
+    ) -> Result<Option<Vec<Change>>, AllocError>
+        requires server { AreOfOneServer sources.now }
+        requires handover { IsHandover (held_by sources.now) sources.now.ins.now self.now }
+        ensures { IfOk result (λ found. IfSome found (λ changes. AreDecided sources.now.ins.now (due_to (held_by sources.now) sources.now.client speech) rows.now.rows.items (is_numbered_in touched.now) changes.items)) }
+    {
+        match &self.precedent {
+            None => Ok(None),
+            Some(precedent) => precedent.changes_for(alloc, sources, speech, rows, touched),
+        }
+    }
+
+    /// Decides what was touched by itself, by what was decided before where that tells.
+    pub(crate) fn decide(
+        &mut self,
+        alloc: Global,
+        sources: &Sources<'_>,
+        speech: Speech,
+        rows: &Rows,
+        touched: &[(u32, Prefix)],
+    ) -> Result<Vec<Change>, AllocError>
+        requires server { AreOfOneServer sources.now }
+        requires handover { IsHandover (held_by sources.now) sources.now.ins.now self.old }
+        requires once { IsDistinct nat_eq (keys_of touched.now) }
+        ensures decided { IfOk result (λ changes. AreDecided sources.now.ins.now (due_to (held_by sources.now) sources.now.client speech) rows.now.rows.items (is_numbered_in touched.now) changes.items) }
+        ensures handover { IsHandover (held_by sources.now) sources.now.ins.now self.new }
+    {
+        if let Some(changes) = self.changes_for(alloc, sources, speech, rows, touched)? {
+            return Ok(changes);
+        }
+        let changes = decide_touched(alloc, sources, speech, rows, touched, &mut self.choices)?;
+        self.keep(alloc, sources, speech, rows, touched, &changes);
+        Ok(changes)
+    }
+}
