@@ -1,22 +1,18 @@
 -- Rows of the table of sets: added, written and given up.
 use Rattle.std.proofs.Common.{Bool, true, false, cond, ◌≡◌, ◌≢◌, ◌<◌, ◌++◌, ℕ, zero, suc, List, [], ◌∷◌, length, refl, sym, ◌∙◌, ap, subst, ◌⊎◌, inl, inr}
 use Rattle.std.specs.Prelude.{Option, Some, None, slice_get, slice_set, slice_index_or, if◌then◌else◌}
-use Rattle.std.specs.BTreeMap.{BTreeMap, get, get_by, is_at}
-use Rattle.std.specs.Arc.{arc_value, arc_with_value}
+use Rattle.std.specs.BTreeMap.{is_at}
+use Rattle.std.specs.Arc.{arc_value}
 use Rattle.std.specs.declared.sync.Arc.{Arc}
 use Rattle.std.specs.Global.{Global}
-use Rattle.std.specs.Ordering.{nat_cmp, ordering_then, is_eq}
-use Rattle.std.specs.declared.cmp.Ordering.{Ordering}
-use Rattle.std.specs.declared.cmp.Ordering.TheVariants.{Less, Equal, Greater}
 use Rattle.std.proofs.lemmas.Option.{same_Some}
 use Rattle.std.proofs.lemmas.Bool.{cases_eq}
-use Rattle.std.specs.Cmp.{nat_cmp_total, tied_itself}
 use Rattle.rs_attrs.specs.Meaning.{Attribute}
-use Rattle.rs_attrs.specs.Comparing.{attributes_cmp, attributes_hash}
+use Rattle.rs_attrs.specs.Comparing.{attributes_cmp}
 use Rattle.rs_attrs.specs.ComparisonLaws.{attributes_cmp_decides}
 use Rattle.rs_adjin.specs.declared.sets.AttrsRow.{AttrsRow}
 use Rattle.rs_adjin.proofs.TableRows.{none_some, set_here, set_apart, shown}
-use Rattle.rs_adjin.specs.SetNumbering.{attrs_by, attrs_in, attrs_at, number_by, IsInverse}
+use Rattle.rs_adjin.specs.SetNumbering.{attrs_by, attrs_in, attrs_at, IsInverse, Writes}
 
 abbrev pub Attributes : Type 0
 Attributes = List Attribute
@@ -41,50 +37,11 @@ attrs_is p q = go (is_at (attributes_cmp p) q) refl
 
 -- ---- numbers written at one set
 
-abbrev pub Writes : Numbers → Numbers → Attributes → Option ℕ → Type 0
-Writes old new p w = (q : Attributes) → new q ≡ cond (is_at (attributes_cmp p) q) w (old q)
-
 pub written : (old new : Numbers) (p : Attributes) (w : Option ℕ) → Writes old new p w → new p ≡ w
 written old new p w u = u p ∙ ap (λ b. cond b w (old p)) (at_itself p)
 
 pub unwritten : (old new : Numbers) (p : Attributes) (w : Option ℕ) → Writes old new p w → (q : Attributes) → is_at (attributes_cmp p) q ≡ false → new q ≡ old q
 unwritten old new p w u q other = u q ∙ ap (λ b. cond b w (old q)) other
-
-abbrev pub Key : Type 0
-Key = ℕ × Arc Attributes Global
-
-abbrev pub key_cmp : Key → Key → Ordering
-key_cmp x y = ordering_then (nat_cmp x.0 y.0) (attributes_cmp (arc_value x.1) (arc_value y.1))
-
-abbrev pub by_hash : Attributes → Attributes → Ordering
-by_hash p q = ordering_then (nat_cmp (attributes_hash p) (attributes_hash q)) (attributes_cmp p q)
-
-then_false : (r s : Ordering) → is_eq s ≡ false → is_eq (ordering_then r s) ≡ false
-then_false Less s other = refl
-then_false Equal s other = other
-then_false Greater s other = refl
-
--- the hash first tells nobody apart whom the attributes don't
-at_hash : (p q : Attributes) → is_at (by_hash p) q ≡ is_at (attributes_cmp p) q
-at_hash p q = elim (attrs_is p q) [
-  | inl e ↦ subst (λ x. is_at (by_hash p) x ≡ is_at (attributes_cmp p) x) (sym e) (ap (λ o. is_eq (ordering_then o (attributes_cmp p p))) (tied_itself nat_cmp_total (attributes_hash p)))
-  | inr other ↦ then_false (nat_cmp (attributes_hash p) (attributes_hash q)) (attributes_cmp p q) other ∙ sym other
-]
-
--- a look-up of the key of attributes is one of them
-pub found_by : (numbers : BTreeMap Key ℕ) (k : Key) (p : Attributes) → k.0 ≡ attributes_hash p → arc_value k.1 ≡ p → get key_cmp numbers k ≡ number_by numbers p
-found_by numbers k p hashed is = λ i. get_by (λ (q : Key). ordering_then (nat_cmp (hashed i) q.0) (attributes_cmp (is i) (arc_value q.1))) numbers
-
--- a map that has at each key what it had
-pub same_numbers : (old new : BTreeMap Key ℕ) (k : Key) → ((q : Key) → get key_cmp new q ≡ get key_cmp old q) → (m : Attributes) → number_by new m ≡ number_by old m
-same_numbers old new k same m = same (attributes_hash m, arc_with_value k.1 m)
-
--- a map written at one key
-pub writes_by : (old new : BTreeMap Key ℕ) (k : Key) (w : Option ℕ) (p : Attributes) → k.0 ≡ attributes_hash p → arc_value k.1 ≡ p → ((q : Key) → get key_cmp new q ≡ cond (is_at (key_cmp k) q) w (get key_cmp old q)) → Writes (number_by old) (number_by new) p w
-writes_by old new k w p hashed is u q =
-    u (attributes_hash q, arc_with_value k.1 q)
-    ∙ ap (λ b. cond b w (number_by old q))
-    (ap (λ h. is_eq (ordering_then (nat_cmp h (attributes_hash q)) (attributes_cmp (arc_value k.1) q))) hashed ∙ ap (λ x. is_eq (ordering_then (nat_cmp (attributes_hash p) (attributes_hash q)) (attributes_cmp x q))) is ∙ at_hash p q)
 
 -- ---- a row without attributes added
 
@@ -214,16 +171,16 @@ module _ (old new : Numbers) (rows : List AttrsRow) (n : ℕ) (p : Attributes) (
   pub gone : IsGone old new (slice_set rows n s) n
   gone = record { here = gone_here; kept = gone_kept; none_new = λ q m is. (gone_old q m is).1; inverse = gone_inverse }
 
--- ---- as the table writes its tree and its rows
+-- ---- as the table writes its numbers and its rows
 
-module _ (old new : BTreeMap Key ℕ) (rows : List AttrsRow) (n : ℕ) (row : AttrsRow) (k : Key) (i : IsInverse (number_by old) rows) (below : n < length rows) (value : row ≡ slice_index_or rows n row) where
+module _ (old new : Numbers) (rows : List AttrsRow) (n : ℕ) (row : AttrsRow) (i : IsInverse old rows) (below : n < length rows) (value : row ≡ slice_index_or rows n row) where
   read : slice_get rows n ≡ Some row
   read = shown rows rows n row refl below value
 
-  pub added_by : (p : Attributes) (kept : Arc Attributes Global) → number_by old p ≡ None → attrs_at rows n ≡ None → arc_value kept ≡ p → k.0 ≡ attributes_hash p → arc_value k.1 ≡ p → ((q : Key) → get key_cmp new q ≡ cond (is_at (key_cmp k) q) (Some n) (get key_cmp old q))
-      → IsAdded (number_by old) (number_by new) (slice_set rows n record { attrs = Some kept }) p
-  added_by p kept absent free named hashed is u = added (number_by old) (number_by new) rows n p row record { attrs = Some kept } i absent free (writes_by old new k (Some n) p hashed is u) read (ap Some named)
+  -- where a copy m of the attributes p was looked up
+  pub added_by : (m p : Attributes) (kept : Arc Attributes Global) → m ≡ p → old m ≡ None → attrs_at rows n ≡ None → arc_value kept ≡ p → Writes old new m (Some n) → IsAdded old new (slice_set rows n record { attrs = Some kept }) p
+  added_by m p kept same absent free named u =
+      added old new rows n p row record { attrs = Some kept } i (ap old (sym same) ∙ absent) free (subst (λ x. Writes old new x (Some n)) same u) read (ap Some named)
 
-  pub gone_by : (taken left : Option (Arc Attributes Global)) → taken ≡ row.attrs → taken ≡ Some k.1 → left ≡ None → k.0 ≡ attributes_hash (arc_value k.1) → ((q : Key) → get key_cmp new q ≡ cond (is_at (key_cmp k) q) None (get key_cmp old q))
-      → IsGone (number_by old) (number_by new) (slice_set rows n record { attrs = left }) n
-  gone_by taken left was is none hashed u = gone (number_by old) (number_by new) rows n (arc_value k.1) row record { attrs = left } i (writes_by old new k None (arc_value k.1) hashed refl u) read (ap attrs_by (sym was ∙ is)) none
+  pub gone_by : (attrs : Arc Attributes Global) (taken left : Option (Arc Attributes Global)) → taken ≡ row.attrs → taken ≡ Some attrs → left ≡ None → Writes old new (arc_value attrs) None → IsGone old new (slice_set rows n record { attrs = left }) n
+  gone_by attrs taken left was is none u = gone old new rows n (arc_value attrs) row record { attrs = left } i u read (ap attrs_by (sym was ∙ is)) none

@@ -1,22 +1,20 @@
 //! The sets of attributes that routes share: of each its number, its attributes, and how many routes have
 //! it.
 //!
-//! Equal attributes are one set, whoever sent them: they are found by order, first by their hash. A set
-//! gets its number before its first route, and gives it up with its last one.
+//! Equal attributes are one set, whoever sent them: they are found by their hash. A set gets its number before
+//! its first route, and gives it up with its last one.
 #![tactic(auto, unfolding(crate::specs::Sets::count_of))]
 
 ghost use Rattle.std.specs.Prelude.{◌≡◌, ◌<◌, ◌+◌, ◌==◌, true, not, ℕ, List, Some, None, length, count_by, option_map, IfOk, OnOk, OnErr};
 ghost use Rattle.std.specs.Arc.{arc_value};
 ghost use Rattle.rs_attrs.specs.Meaning.{Attribute};
-ghost use Rattle.rs_attrs.specs.Comparing.{attributes_hash};
 ghost use Rattle.rs_adjin.specs.Held.{one_if};
 ghost use Rattle.rs_adjin.specs.SetNumbering.{IsInverse, number_by};
 
-use crate::giving::find_or_give;
 use crate::room::make_room;
+use crate::set_numbers::SetNumbers;
 use rs_attrs::Attrs;
 use std::alloc::{AllocError, Global};
-use std::collections::BTreeMap;
 use std::sync::Arc;
 
 /// A set of attributes: its number, and the copy of them that is kept.
@@ -35,7 +33,7 @@ pub(crate) struct AttrsRow {
 /// Sets of attributes by number, and how many routes have each.
 #[derive(Drop)]
 pub(crate) struct Sets {
-    numbers: BTreeMap<(u32, Arc<Attrs>), u32>,
+    numbers: SetNumbers,
     rows: Vec<AttrsRow>,
     uses: Vec<u32>,
     /// Numbers that no set has.
@@ -46,14 +44,6 @@ pub(crate) struct Sets {
     ghost counted: { count_by (λ n. not (n == 0)) uses.items ≡ held },
 }
 
-/// By what attributes are found: their hash, and they themselves.
-fn key_of(attrs: &Arc<Attrs>) -> Result<(u32, Arc<Attrs>), AllocError>
-    ensures hash { IfOk result (λ key. key.0 ≡ attributes_hash (arc_value attrs.now)) }
-    ensures attrs { IfOk result (λ key. arc_value key.1 ≡ arc_value attrs.now) }
-{
-    Ok((attrs.kept_hash(), attrs.clone()?))
-}
-
 impl Sets {
     ghost use Rattle.rs_adjin.specs.Sets.{count_of, set_in, attrs_of, HasRoom, SameCounts, KeepsSets, SameSets, SameSetsBut, GivesUpSet};
 
@@ -62,7 +52,7 @@ impl Sets {
         ensures { (s : ℕ) → count_of result s ≡ 0 }
     {
         Sets {
-            numbers: BTreeMap::new(alloc),
+            numbers: SetNumbers::new(alloc),
             rows: Vec::new(alloc),
             uses: Vec::new(alloc),
             free: Vec::new(alloc),
@@ -81,8 +71,7 @@ impl Sets {
     pub(crate) fn number(&self, attrs: &Arc<Attrs>) -> Result<Option<u32>, AllocError>
         ensures { IfOk result (λ set. set ≡ set_in self.now (arc_value attrs.now)) }
     {
-        let key = key_of(attrs)?;
-        Ok(self.numbers.get(&key).copied())
+        self.numbers.get(attrs)
     }
 
     /// The attributes of a number.
@@ -157,13 +146,13 @@ impl Sets {
         ensures err { OnErr result (SameSets self.old self.new) }
         ensures counts { SameCounts self.old self.new }
     {
-        let key = key_of(attrs)?;
+        let key = attrs.clone()?;
         let kept = attrs.clone()?;
         let copy = attrs.clone()?;
         let Ok(unused) = self.unused() else {
             return self.known(attrs);
         };
-        match find_or_give(&mut self.numbers, key, unused) {
+        match self.numbers.find_or_give(key, unused) {
             Ok(None) => {
                 self.rows[unused as usize].attrs = Some(kept);
                 Ok(Shared {
@@ -196,7 +185,7 @@ impl Sets {
         let Some(attrs) = self.rows[place].attrs.take() else {
             return;
         };
-        self.numbers.remove(&(attrs.kept_hash(), attrs));
+        self.numbers.remove(attrs);
         let _ = self.free.push(set);
     }
 

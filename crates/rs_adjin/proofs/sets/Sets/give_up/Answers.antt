@@ -1,6 +1,5 @@
-use Rattle.std.proofs.Common.{rules, ◌∙◌, ap, arith}
+use Rattle.std.proofs.Common.{rules, arith}
 use Rattle.std.specs.Prelude.{slice_set}
-use Rattle.rs_attrs.specs.Comparing.{attributes_hash}
 use Rattle.rs_adjin.specs.SetNumbering.{number_by}
 use Rattle.rs_adjin.proofs.SetRows.{IsGone, gone_by}
 use Rattle.rs_adjin.proofs.sets.Sets.give_up.Goals as goal
@@ -10,13 +9,13 @@ invariant_of-self-2 c = record { inverse = written.inverse; counted = c.args.sel
   where
     written : IsGone (number_by c.args.self.now.numbers) (number_by c.remove.new.self) (slice_set c.args.self.now.rows.items c.args.set record { attrs = c.take.new.self }) c.args.set
     written =
-        gone_by c.args.self.now.numbers c.remove.new.self c.args.self.now.rows.items c.args.set c.index_mut.result.now (c.kept_hash.result, c.in-Some.attrs) c.args.self.now.inverse (search (rules, arith)) c.index_mut.ensures.value
-        c.take.result c.take.new.self c.take.ensures.value c.in-Some.is c.take.ensures.after (c.kept_hash.ensures ∙ ap attributes_hash c.deref.ensures) c.remove.ensures.updates.0
+        gone_by (number_by c.args.self.now.numbers) (number_by c.remove.new.self) c.args.self.now.rows.items c.args.set c.index_mut.result.now c.args.self.now.inverse (search (rules, arith)) c.index_mut.ensures.value
+        c.in-Some.attrs c.take.result c.take.new.self c.take.ensures.value c.in-Some.is c.take.ensures.after c.remove.ensures
 
 new : (c : goal.After-self-2-1) → IsGone (number_by c.args.self.now.numbers) (number_by c.remove.new.self) (slice_set c.args.self.now.rows.items c.args.set record { attrs = c.take.new.self }) c.args.set
 new c =
-    gone_by c.args.self.now.numbers c.remove.new.self c.args.self.now.rows.items c.args.set c.index_mut.result.now (c.kept_hash.result, c.in-Some.attrs) c.args.self.now.inverse (search (rules, arith)) c.index_mut.ensures.value
-    c.take.result c.take.new.self c.take.ensures.value c.in-Some.is c.take.ensures.after (c.kept_hash.ensures ∙ ap attributes_hash c.deref.ensures) c.remove.ensures.updates.0
+    gone_by (number_by c.args.self.now.numbers) (number_by c.remove.new.self) c.args.self.now.rows.items c.args.set c.index_mut.result.now c.args.self.now.inverse (search (rules, arith)) c.index_mut.ensures.value
+    c.in-Some.attrs c.take.result c.take.new.self c.take.ensures.value c.in-Some.is c.take.ensures.after c.remove.ensures
 
 pub returns-clause-gone : goal.returns-clause-gone
 returns-clause-gone c = (new c).here
