@@ -3,7 +3,7 @@
 ghost use Rattle.rs_outlet.specs.Decided.Precedents.{IsHandover};
 ghost use Rattle.rs_outlet.specs.Decided.HeldBy.{tables_of};
 
-use super::{CLIENT, Exchange, SENDER, drain, let_go, prefix, some};
+use super::{CLIENT, Exchange, SENDER, all, drain, let_go, prefix, some};
 use crate::common::{equals, shared};
 use rs_attrs::{Attrs, Mode};
 use rs_open::Limit;
@@ -79,18 +79,39 @@ fn announce(rt: &impl Abort, exchange: &mut Exchange, sets: u8, other: u8, rises
     }
 }
 
-/// The outlet of a client, turned by these choices.
-fn turned(rt: &impl Abort, exchange: &Exchange, client: usize, handover: &mut Handover) -> Outlet
+/// A turn of an outlet, to which those before it hand this over.
+fn turn_by(rt: &impl Abort, exchange: &Exchange, outlet: &mut Outlet, handover: &mut Handover)
     requires { IsHandover (tables_of exchange.now.config exchange.now.tables) exchange.now.tables handover.old }
     ensures { IsHandover (tables_of exchange.now.config exchange.now.tables) exchange.now.tables handover.new }
 {
-    let mut outlet = Outlet::new(exchange.alloc, client, false).expect(rt, "an outlet");
-    outlet.up(Mode::Four, Limit::Short);
     assert!(rt; outlet.client() < exchange.config.clients());
     assert!(rt; exchange.tables.clients() == exchange.config.clients());
     outlet
         .turn(&exchange.tables, &exchange.config, handover)
         .expect(rt, "a turn");
+}
+
+/// The outlet of a client whose session began.
+fn begun(rt: &impl Abort, exchange: &Exchange, client: usize) -> Outlet {
+    let mut outlet = Outlet::new(exchange.alloc, client, false).expect(rt, "an outlet");
+    outlet.up(Mode::Four, Limit::Short);
+    outlet
+}
+
+/// The outlet of a client, turned once.
+fn turned(rt: &impl Abort, exchange: &Exchange, client: usize, handover: &mut Handover) -> Outlet
+    requires { IsHandover (tables_of exchange.now.config exchange.now.tables) exchange.now.tables handover.old }
+    ensures { IsHandover (tables_of exchange.now.config exchange.now.tables) exchange.now.tables handover.new }
+{
+    let mut outlet = begun(rt, exchange, client);
+    turn_by(rt, exchange, &mut outlet, handover);
+    outlet
+}
+
+/// The outlet of a client for which all was decided while nothing was announced.
+fn waiting(rt: &impl Abort, exchange: &Exchange, client: usize) -> Outlet {
+    let mut outlet = begun(rt, exchange, client);
+    exchange.decides(rt, &mut outlet, all(0));
     outlet
 }
 
@@ -118,6 +139,30 @@ fn clients_share_what_rules_left(rt: HostRuntime) {
     let first = turned(&rt, &exchange, CLIENT, &mut handover);
     let alike = turned(&rt, &exchange, CLIENT + 1, &mut handover);
     let other = turned(&rt, &exchange, CLIENT + 2, &mut handover);
+    drop(handover);
+    have_owners(&rt, &exchange, &first, SETS, 4);
+    have_owners(&rt, &exchange, &alike, SETS, 4);
+    have_owners(&rt, &exchange, &other, SETS, 2);
+    let_go(exchange, first);
+}
+
+/// What was decided at touched prefixes for one client serves the next one, but not one to which other rules apply: each set
+/// that is left has an owner more for each of its prefixes and each client that is due it.
+#[test]
+fn what_was_decided_serves_those_alike(rt: HostRuntime) {
+    let mut exchange = Exchange::of(&rt, rt.alloc(), STRIPPED);
+    let mut first = waiting(&rt, &exchange, CLIENT);
+    let mut alike = waiting(&rt, &exchange, CLIENT + 1);
+    let mut other = waiting(&rt, &exchange, CLIENT + 2);
+    announce(&rt, &mut exchange, SETS, 2, false);
+    let mut handover = Handover::new(rt.alloc());
+    let count = u32::from(SETS) * 2;
+    exchange.touch(&rt, &mut first, 0..count, 1);
+    exchange.touch(&rt, &mut alike, 0..count, 1);
+    exchange.touch(&rt, &mut other, 0..count, 1);
+    turn_by(&rt, &exchange, &mut first, &mut handover);
+    turn_by(&rt, &exchange, &mut alike, &mut handover);
+    turn_by(&rt, &exchange, &mut other, &mut handover);
     drop(handover);
     have_owners(&rt, &exchange, &first, SETS, 4);
     have_owners(&rt, &exchange, &alike, SETS, 4);
