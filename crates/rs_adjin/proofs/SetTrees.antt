@@ -80,10 +80,10 @@ module _ (trees : List Tree) (n : ℕ) (old new : Tree) (p : Attributes) (k : Ke
   elsewhere : (q : Attributes) → place_for q ≢ n → number_among (slice_set trees n new) q ≡ number_among trees q
   elsewhere q ne = ap (λ t. number_within t q) (set_apart trees n new (place_for q) ne)
 
-  -- a tree that has at each key what it had
-  pub same_among : ((q : Key) → get key_cmp new q ≡ get key_cmp old q) → (q : Attributes) → number_among (slice_set trees n new) q ≡ number_among trees q
+  -- a tree with the entries that it had
+  pub same_among : new.entries ≡ old.entries → (q : Attributes) → number_among (slice_set trees n new) q ≡ number_among trees q
   same_among same q = elim (cases_eq (place_for q) n) [
-    | inl e ↦ there q e ∙ (same (attributes_hash q, arc_with_value k.1 q) ∙ there_before q e)
+    | inl e ↦ there q e ∙ (ap (lookup (is_at (λ (x : Key). key_cmp (attributes_hash q, arc_with_value k.1 q) x))) same ∙ there_before q e)
     | inr ne ↦ elsewhere q ne
   ]
 

@@ -1,7 +1,7 @@
 -- Rows of the table of numbers: added, written and given up.
 use Rattle.std.proofs.Common.{Bool, true, false, cond, ◌≡◌, ◌≢◌, ◌<◌, ◌&&◌, ◌==◌, ◌++◌, ℕ, zero, suc, List, [], ◌∷◌, length, refl, sym, ◌∙◌, ap, subst, arith, ◌⊎◌, inl, inr}
 use Rattle.std.specs.Prelude.{Option, Some, None, slice_get, slice_set, slice_index_or, if◌then◌else◌}
-use Rattle.std.specs.BTreeMap.{BTreeMap, get, is_at}
+use Rattle.std.specs.BTreeMap.{is_at}
 use Rattle.std.specs.Ordering.{nat_cmp, ordering_then, is_eq}
 use Rattle.std.proofs.lemmas.Bool.Decides.{nat_tests}
 use Rattle.std.proofs.lemmas.Grind.{common_steps}
@@ -12,10 +12,11 @@ use Rattle.rs_attrs.specs.Effects.{same_prefix}
 use Rattle.rs_attrs.proofs.EachOnce.{same_is, same_itself}
 use Rattle.rs_adjin.specs.declared.routes.Route.{Route}
 use Rattle.rs_adjin.specs.declared.numbers.Row.{Row}
-use Rattle.rs_adjin.specs.Numbering.{prefix_in, prefix_at, routes_in, routes_by, IsInverse, AreVacant}
+use Rattle.rs_adjin.specs.declared.prefix_numbers.PrefixNumbers.{PrefixNumbers}
+use Rattle.rs_adjin.specs.Numbering.{prefix_in, prefix_at, routes_in, routes_by, number_by, Writes, IsInverse, AreVacant}
 
 abbrev pub Numbers : Type 0
-Numbers = BTreeMap Prefix ℕ
+Numbers = PrefixNumbers
 
 -- ---- prefixes compared
 
@@ -43,16 +44,13 @@ prefix_is p q = go (is_at (prefix_order p) q) refl
 
 -- ---- a map written at one prefix
 
-abbrev pub Writes : Numbers → Numbers → Prefix → Option ℕ → Type 0
-Writes old new p w = (q : Prefix) → get prefix_order new q ≡ cond (is_at (prefix_order p) q) w (get prefix_order old q)
+pub written : (old new : Numbers) (p : Prefix) (w : Option ℕ) → Writes old new p w → number_by new p ≡ w
+written old new p w u = u p ∙ ap (λ b. cond b w (number_by old p)) (at_itself p)
 
-pub written : (old new : Numbers) (p : Prefix) (w : Option ℕ) → Writes old new p w → get prefix_order new p ≡ w
-written old new p w u = u p ∙ ap (λ b. cond b w (get prefix_order old p)) (at_itself p)
+pub unwritten : (old new : Numbers) (p : Prefix) (w : Option ℕ) → Writes old new p w → (q : Prefix) → is_at (prefix_order p) q ≡ false → number_by new q ≡ number_by old q
+unwritten old new p w u q other = u q ∙ ap (λ b. cond b w (number_by old q)) other
 
-pub unwritten : (old new : Numbers) (p : Prefix) (w : Option ℕ) → Writes old new p w → (q : Prefix) → is_at (prefix_order p) q ≡ false → get prefix_order new q ≡ get prefix_order old q
-unwritten old new p w u q other = u q ∙ ap (λ b. cond b w (get prefix_order old q)) other
-
-pub written_apart : (old new : Numbers) (p : Prefix) (w : Option ℕ) → Writes old new p w → (q : Prefix) → q ≢ p → get prefix_order new q ≡ get prefix_order old q
+pub written_apart : (old new : Numbers) (p : Prefix) (w : Option ℕ) → Writes old new p w → (q : Prefix) → q ≢ p → number_by new q ≡ number_by old q
 written_apart old new p w u q ne = elim (prefix_is p q) [
   | inl e ↦ absurd (ne e)
   | inr other ↦ unwritten old new p w u q other
@@ -124,7 +122,7 @@ pub inverse_same : (numbers : Numbers) (old new : List Row) → ((m : ℕ) → p
 inverse_same numbers old new same i = record { there = λ p n is. same n ∙ i.there p n is; back = λ p n is. i.back p n (sym (same n) ∙ is) }
 
 -- prefixes that all have the numbers that they had
-pub inverse_kept : (old new : Numbers) (rows : List Row) → ((p : Prefix) → get prefix_order new p ≡ get prefix_order old p) → IsInverse old rows → IsInverse new rows
+pub inverse_kept : (old new : Numbers) (rows : List Row) → ((p : Prefix) → number_by new p ≡ number_by old p) → IsInverse old rows → IsInverse new rows
 inverse_kept old new rows same i = record { there = λ p n is. i.there p n (sym (same p) ∙ is); back = λ p n is. same p ∙ i.back p n is }
 
 pub vacant_same : (old new : List Row) → ((m : ℕ) → prefix_at new m ≡ prefix_at old m) → ((m : ℕ) → routes_in (slice_get new m) ≡ routes_in (slice_get old m)) → AreVacant old → AreVacant new
@@ -162,7 +160,7 @@ module _ (rows : List Row) (n : ℕ) (r s : Row) (read : slice_get rows n ≡ So
     | inr ne ↦ ap routes_in (apart m ne) ∙ vacant m (sym (ap prefix_in (apart m ne)) ∙ none)
   ]
 
-  other_row : (numbers : Numbers) (p q : Prefix) → IsInverse numbers rows → prefix_at rows n ≡ Some p → is_at (prefix_order p) q ≡ false → (o : Option ℕ) → get prefix_order numbers q ≡ o → routes_by (slice_set rows n s) o ≡ routes_by rows o
+  other_row : (numbers : Numbers) (p q : Prefix) → IsInverse numbers rows → prefix_at rows n ≡ Some p → is_at (prefix_order p) q ≡ false → (o : Option ℕ) → number_by numbers q ≡ o → routes_by (slice_set rows n s) o ≡ routes_by rows o
   other_row numbers p q i at ne None is = refl
   other_row numbers p q i at ne (Some m) is = elim (cases_eq m n) [
     | inl e ↦ absurd (
@@ -173,60 +171,60 @@ module _ (rows : List Row) (n : ℕ) (r s : Row) (read : slice_get rows n ≡ So
   ]
 
   -- the routes for p are these now, and all others as they were
-  pub row_steps : (numbers : Numbers) (p : Prefix) (rs : List Route) → IsInverse numbers rows → get prefix_order numbers p ≡ Some n → s.routes ≡ rs →
-      (q : Prefix) → routes_by (slice_set rows n s) (get prefix_order numbers q) ≡ (if same_prefix q p then rs else routes_by rows (get prefix_order numbers q))
+  pub row_steps : (numbers : Numbers) (p : Prefix) (rs : List Route) → IsInverse numbers rows → number_by numbers p ≡ Some n → s.routes ≡ rs →
+      (q : Prefix) → routes_by (slice_set rows n s) (number_by numbers q) ≡ (if same_prefix q p then rs else routes_by rows (number_by numbers q))
   row_steps numbers p rs i at is q = go (same_prefix q p) refl
     where
-      go : (b : Bool) → same_prefix q p ≡ b → routes_by (slice_set rows n s) (get prefix_order numbers q) ≡ (if b then rs else routes_by rows (get prefix_order numbers q))
-      go true same = ap (λ x. routes_by (slice_set rows n s) (get prefix_order numbers x)) (same_is q p same) ∙ (ap (routes_by (slice_set rows n s)) at ∙ (ap routes_in here ∙ is))
-      go false other = other_row numbers p q i (i.there p n at) (at_prefix p q ∙ other) (get prefix_order numbers q) refl
+      go : (b : Bool) → same_prefix q p ≡ b → routes_by (slice_set rows n s) (number_by numbers q) ≡ (if b then rs else routes_by rows (number_by numbers q))
+      go true same = ap (λ x. routes_by (slice_set rows n s) (number_by numbers x)) (same_is q p same) ∙ (ap (routes_by (slice_set rows n s)) at ∙ (ap routes_in here ∙ is))
+      go false other = other_row numbers p q i (i.there p n at) (at_prefix p q ∙ other) (number_by numbers q) refl
 
 -- ---- a number given
 
-module _ (old new : Numbers) (rows : List Row) (n : ℕ) (p : Prefix) (r s : Row) (i : IsInverse old rows) (absent : get prefix_order old p ≡ None) (free : prefix_at rows n ≡ None) (u : Writes old new p (Some n)) (read : slice_get rows n ≡ Some r) (named : s.prefix ≡ Some p) where
+module _ (old new : Numbers) (rows : List Row) (n : ℕ) (p : Prefix) (r s : Row) (i : IsInverse old rows) (absent : number_by old p ≡ None) (free : prefix_at rows n ≡ None) (u : Writes old new p (Some n)) (read : slice_get rows n ≡ Some r) (named : s.prefix ≡ Some p) where
   new_row : slice_get (slice_set rows n s) n ≡ Some s
   new_row = set_here rows n s r read
 
   -- a prefix that has a number is another, and its number too
-  other_prefix : (q : Prefix) (m : ℕ) → get prefix_order old q ≡ Some m → is_at (prefix_order p) q ≡ false
+  other_prefix : (q : Prefix) (m : ℕ) → number_by old q ≡ Some m → is_at (prefix_order p) q ≡ false
   other_prefix q m is = elim (prefix_is p q) [
-    | inl e ↦ absurd (none_some (get prefix_order old p) m absent (subst (λ x. get prefix_order old x ≡ Some m) e is))
+    | inl e ↦ absurd (none_some (number_by old p) m absent (subst (λ x. number_by old x ≡ Some m) e is))
     | inr ne ↦ ne
   ]
 
-  other_number : (q : Prefix) (m : ℕ) → get prefix_order old q ≡ Some m → m ≢ n
+  other_number : (q : Prefix) (m : ℕ) → number_by old q ≡ Some m → m ≢ n
   other_number q m is e = none_some (prefix_at rows n) q free (subst (λ k. prefix_at rows k ≡ Some q) e (i.there q m is))
 
-  pub added_kept : (q : Prefix) (m : ℕ) → get prefix_order old q ≡ Some m → get prefix_order new q ≡ Some m
+  pub added_kept : (q : Prefix) (m : ℕ) → number_by old q ≡ Some m → number_by new q ≡ Some m
   added_kept q m is = unwritten old new p (Some n) u q (other_prefix q m is) ∙ is
 
   pub added_inverse : IsInverse new (slice_set rows n s)
   added_inverse = record {
     there = λ q m is. elim (prefix_is p q) [
       | inl e ↦
-          let m_is : m ≡ n = sym (same_Some n m (sym (written old new p (Some n) u) ∙ subst (λ x. get prefix_order new x ≡ Some m) e is)) in
+          let m_is : m ≡ n = sym (same_Some n m (sym (written old new p (Some n) u) ∙ subst (λ x. number_by new x ≡ Some m) e is)) in
           ap (prefix_at (slice_set rows n s)) m_is ∙ (ap prefix_in new_row ∙ (named ∙ ap (λ x. Some x) (sym e)))
       | inr ne ↦
-          let was : get prefix_order old q ≡ Some m = sym (unwritten old new p (Some n) u q ne) ∙ is in
+          let was : number_by old q ≡ Some m = sym (unwritten old new p (Some n) u q ne) ∙ is in
           ap prefix_in (set_apart rows n s m (other_number q m was)) ∙ i.there q m was
     ];
     back = λ q m is. elim (cases_eq m n) [
       | inl e ↦
           let q_is : p ≡ q = same_Some p q (sym (ap prefix_in new_row ∙ named) ∙ subst (λ k. prefix_at (slice_set rows n s) k ≡ Some q) e is) in
-          subst (λ x. get prefix_order new x ≡ Some m) q_is (written old new p (Some n) u ∙ ap (λ k. Some k) (sym e))
+          subst (λ x. number_by new x ≡ Some m) q_is (written old new p (Some n) u ∙ ap (λ k. Some k) (sym e))
       | inr ne ↦ added_kept q m (i.back q m (sym (ap prefix_in (set_apart rows n s m ne)) ∙ is))
     ];
   }
 
-  same_there : (q : Prefix) (o : Option ℕ) → get prefix_order old q ≡ o → routes_by (slice_set rows n s) o ≡ routes_by rows o
+  same_there : (q : Prefix) (o : Option ℕ) → number_by old q ≡ o → routes_by (slice_set rows n s) o ≡ routes_by rows o
   same_there q None is = refl
   same_there q (Some m) is = ap routes_in (set_apart rows n s m (other_number q m is))
 
-  pub added_same : s.routes ≡ r.routes → AreVacant rows → (q : Prefix) → routes_by (slice_set rows n s) (get prefix_order new q) ≡ routes_by rows (get prefix_order old q)
+  pub added_same : s.routes ≡ r.routes → AreVacant rows → (q : Prefix) → routes_by (slice_set rows n s) (number_by new q) ≡ routes_by rows (number_by old q)
   added_same same vacant q = elim (prefix_is p q) [
-    | inl e ↦ subst (λ x. routes_by (slice_set rows n s) (get prefix_order new x) ≡ routes_by rows (get prefix_order old x)) (sym e)
+    | inl e ↦ subst (λ x. routes_by (slice_set rows n s) (number_by new x) ≡ routes_by rows (number_by old x)) (sym e)
         (ap (routes_by (slice_set rows n s)) (written old new p (Some n) u) ∙ (ap routes_in new_row ∙ (same ∙ (sym (ap routes_in read) ∙ (vacant n free ∙ sym (ap (routes_by rows) absent))))))
-    | inr ne ↦ ap (routes_by (slice_set rows n s)) (unwritten old new p (Some n) u q ne) ∙ same_there q (get prefix_order old q) refl
+    | inr ne ↦ ap (routes_by (slice_set rows n s)) (unwritten old new p (Some n) u q ne) ∙ same_there q (number_by old q) refl
   ]
 
 -- ---- a number given up
@@ -235,26 +233,26 @@ module _ (old new : Numbers) (rows : List Row) (n : ℕ) (p : Prefix) (r s : Row
   gone_row : slice_get (slice_set rows n s) n ≡ Some s
   gone_row = set_here rows n s r read
 
-  number_was : get prefix_order old p ≡ Some n
+  number_was : number_by old p ≡ Some n
   number_was = i.back p n (ap prefix_in read ∙ was)
 
-  other_left : (q : Prefix) (m : ℕ) → m ≢ n → get prefix_order old q ≡ Some m → is_at (prefix_order p) q ≡ false
+  other_left : (q : Prefix) (m : ℕ) → m ≢ n → number_by old q ≡ Some m → is_at (prefix_order p) q ≡ false
   other_left q m ne is = elim (prefix_is p q) [
-    | inl e ↦ absurd (ne (same_Some m n (sym (subst (λ x. get prefix_order old x ≡ Some m) e is) ∙ number_was)))
+    | inl e ↦ absurd (ne (same_Some m n (sym (subst (λ x. number_by old x ≡ Some m) e is) ∙ number_was)))
     | inr other ↦ other
   ]
 
   pub gone_here : prefix_at (slice_set rows n s) n ≡ None
   gone_here = ap prefix_in gone_row ∙ none
 
-  pub gone_kept : (q : Prefix) (m : ℕ) → m ≢ n → get prefix_order old q ≡ Some m → get prefix_order new q ≡ Some m
+  pub gone_kept : (q : Prefix) (m : ℕ) → m ≢ n → number_by old q ≡ Some m → number_by new q ≡ Some m
   gone_kept q m ne is = unwritten old new p None u q (other_left q m ne is) ∙ is
 
-  pub gone_old : (q : Prefix) (m : ℕ) → get prefix_order new q ≡ Some m → (m ≢ n) × (get prefix_order old q ≡ Some m)
+  pub gone_old : (q : Prefix) (m : ℕ) → number_by new q ≡ Some m → (m ≢ n) × (number_by old q ≡ Some m)
   gone_old q m is = elim (prefix_is p q) [
-    | inl e ↦ absurd (none_some (get prefix_order new p) m (written old new p None u) (subst (λ x. get prefix_order new x ≡ Some m) e is))
+    | inl e ↦ absurd (none_some (number_by new p) m (written old new p None u) (subst (λ x. number_by new x ≡ Some m) e is))
     | inr other ↦
-        let before : get prefix_order old q ≡ Some m = sym (unwritten old new p None u q other) ∙ is in (
+        let before : number_by old q ≡ Some m = sym (unwritten old new p None u q other) ∙ is in (
           λ e.
               let same : q ≡ p = same_Some q p (sym (i.there q m before) ∙ (ap (prefix_at rows) e ∙ (ap prefix_in read ∙ was))) in
               let t : is_at (prefix_order p) p ≡ false = subst (λ x. is_at (prefix_order p) x ≡ false) same other in
@@ -278,15 +276,15 @@ module _ (old new : Numbers) (rows : List Row) (n : ℕ) (p : Prefix) (r s : Row
     | inr ne ↦ ap routes_in (set_apart rows n s m ne) ∙ vacant m (sym (ap prefix_in (set_apart rows n s m ne)) ∙ nil)
   ]
 
-  same_left : (q : Prefix) → is_at (prefix_order p) q ≡ false → (o : Option ℕ) → get prefix_order new q ≡ o → routes_by (slice_set rows n s) o ≡ routes_by rows o
+  same_left : (q : Prefix) → is_at (prefix_order p) q ≡ false → (o : Option ℕ) → number_by new q ≡ o → routes_by (slice_set rows n s) o ≡ routes_by rows o
   same_left q other None is = refl
   same_left q other (Some m) is = ap routes_in (set_apart rows n s m (gone_old q m is).0)
 
-  pub gone_same : r.routes ≡ [] → (q : Prefix) → routes_by (slice_set rows n s) (get prefix_order new q) ≡ routes_by rows (get prefix_order old q)
+  pub gone_same : r.routes ≡ [] → (q : Prefix) → routes_by (slice_set rows n s) (number_by new q) ≡ routes_by rows (number_by old q)
   gone_same empty q = elim (prefix_is p q) [
-    | inl e ↦ subst (λ x. routes_by (slice_set rows n s) (get prefix_order new x) ≡ routes_by rows (get prefix_order old x)) (sym e)
+    | inl e ↦ subst (λ x. routes_by (slice_set rows n s) (number_by new x) ≡ routes_by rows (number_by old x)) (sym e)
         (ap (routes_by (slice_set rows n s)) (written old new p None u) ∙ sym (ap (routes_by rows) number_was ∙ (ap routes_in read ∙ empty)))
-    | inr other ↦ same_left q other (get prefix_order new q) refl ∙ ap (routes_by rows) (unwritten old new p None u q other)
+    | inr other ↦ same_left q other (number_by new q) refl ∙ ap (routes_by rows) (unwritten old new p None u q other)
   ]
 
 -- ---- what a number leads to
@@ -296,5 +294,5 @@ row_within [] n p is = absurd (cc)
 row_within (r ∷ rows) zero p is = omega arith
 row_within (r ∷ rows) (suc n) p is = let below : n < length rows = row_within rows n p is in omega (arith, below)
 
-pub row_routes : (numbers : Numbers) (rows : List Row) (p : Prefix) (n : ℕ) (r : Row) → get prefix_order numbers p ≡ Some n → slice_get rows n ≡ Some r → routes_by rows (get prefix_order numbers p) ≡ r.routes
+pub row_routes : (numbers : Numbers) (rows : List Row) (p : Prefix) (n : ℕ) (r : Row) → number_by numbers p ≡ Some n → slice_get rows n ≡ Some r → routes_by rows (number_by numbers p) ≡ r.routes
 row_routes numbers rows p n r at read = ap (routes_by rows) at ∙ ap routes_in read

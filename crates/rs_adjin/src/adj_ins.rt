@@ -63,11 +63,12 @@ impl AdjIns {
         for _ in 0..clients {
             held.push(Held::new(alloc))?;
         }
+        let table = Numbered::new(alloc)?;
         Ok(AdjIns {
             alloc,
             identifiers,
             held,
-            table: Numbered::new(alloc),
+            table,
         })
     }
 

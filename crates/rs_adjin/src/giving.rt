@@ -1,7 +1,7 @@
 //! A key's number, found or given by one search.
 
 ghost use Rattle.std.specs.Prelude.{◌≡◌, ℕ, None, Some, IfOk, OnErr};
-ghost use Rattle.std.specs.BTreeMap.{get, Updates};
+ghost use Rattle.std.specs.BTreeMap.{get, insert_entry, IsOrdered, IsUnchanged, Updates};
 
 use std::alloc::AllocError;
 use std::collections::BTreeMap;
@@ -15,8 +15,10 @@ pub(crate) fn find_or_give<K: Ord + Drop>(
 ) -> Result<Option<u32>, AllocError>
     ensures found { IfOk result (λ found. found ≡ get K.cmp numbers.old key) }
     ensures given { IfOk result (λ found. found ≡ None → Updates K.cmp numbers.old numbers.new key (Some number)) }
-    ensures kept { IfOk result (λ found. (n : ℕ) → found ≡ Some n → (q : K) → get K.cmp numbers.new q ≡ get K.cmp numbers.old q) }
-    ensures err { OnErr result ((q : K) → get K.cmp numbers.new q ≡ get K.cmp numbers.old q) }
+    ensures entries { IfOk result (λ found. found ≡ None → numbers.new.entries ≡ insert_entry K.cmp numbers.old.entries key number) }
+    ensures ordered { IfOk result (λ found. found ≡ None → IsOrdered K.cmp numbers.new) }
+    ensures kept { IfOk result (λ found. (n : ℕ) → found ≡ Some n → IsUnchanged numbers.old numbers.new) }
+    ensures err { OnErr result (IsUnchanged numbers.old numbers.new) }
 {
     match numbers.entry(key) {
         Err(_) => Err(AllocError),

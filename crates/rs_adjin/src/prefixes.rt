@@ -10,14 +10,14 @@ ghost use Rattle.rs_adjin.specs.Table.{held_prefix};
 
 use crate::held::Held;
 use crate::numbers::Numbered;
+use crate::rising_prefixes::RisingPrefixes;
 use rs_octets::Prefix;
-use std::collections::btree_map::Range;
 use std::marker::Model;
 
 /// The prefixes with a number that are left, by rising prefix.
 #[derive(Drop)]
 pub struct NumberedPrefixes<'a> {
-    numbers: Range<'a, Prefix, u32>,
+    numbers: RisingPrefixes<'a>,
 }
 
 impl<'a> Model for NumberedPrefixes<'a> {
@@ -30,7 +30,7 @@ impl<'a> Model for NumberedPrefixes<'a> {
 }
 
 impl<'a> NumberedPrefixes<'a> {
-    pub(crate) fn new(numbers: Range<'a, Prefix, u32>) -> NumberedPrefixes<'a>
+    pub(crate) fn new(numbers: RisingPrefixes<'a>) -> NumberedPrefixes<'a>
         ensures { result ≡ numbers.entry }
     {
         NumberedPrefixes { numbers }
@@ -45,15 +45,14 @@ impl<'a> Iterator for NumberedPrefixes<'a> {
     ghost remaining = { item_count (λ left. left) };
 
     fn next(&mut self) -> Option<(Prefix, u32)> {
-        let (prefix, number) = self.numbers.next()?;
-        Some((*prefix, *number))
+        self.numbers.next()
     }
 }
 
 /// The prefixes that a client holds and that are left, by rising prefix.
 #[derive(Drop)]
 pub struct HeldPrefixes<'a> {
-    numbers: Range<'a, Prefix, u32>,
+    numbers: RisingPrefixes<'a>,
     held: &'a Held,
 }
 
@@ -69,7 +68,7 @@ impl<'a> Model for HeldPrefixes<'a> {
 }
 
 impl<'a> HeldPrefixes<'a> {
-    pub(crate) fn new(numbers: Range<'a, Prefix, u32>, held: &'a Held) -> HeldPrefixes<'a>
+    pub(crate) fn new(numbers: RisingPrefixes<'a>, held: &'a Held) -> HeldPrefixes<'a>
         ensures { result ≡ filter (λ e. has_number held.now e.1) numbers.entry }
     {
         HeldPrefixes { numbers, held }
@@ -85,8 +84,8 @@ impl<'a> Iterator for HeldPrefixes<'a> {
 
     fn next(&mut self) -> Option<(Prefix, u32)> {
         while let Some((prefix, number)) = self.numbers.next() {
-            if self.held.has(*number) {
-                return Some((*prefix, *number));
+            if self.held.has(number) {
+                return Some((prefix, number));
             }
         }
         None
