@@ -1,8 +1,12 @@
-use Rattle.std.proofs.Common.{◌≡◌, ◌<◌, List, get_or, sym, subst}
+use Rattle.std.proofs.Common.{◌≡◌, ◌<◌, List, arith, get_or, refl, sym, subst}
+use Rattle.rs_outlet.specs.Decided.HeldBy.{tables_of}
 use Rattle.rs_outlet.specs.Views.{View}
 use Rattle.rs_workers.specs.Turned.{TurnedAlone}
 use Rattle.rs_workers.proofs.Placing.{walked_on}
 use Rattle.rs_workers.proofs.turning.turn_share.Goals as goal
+
+pub loop-k-init : goal.loop-k-init
+loop-k-init g c = (λ j d le. refl, λ j d below. absurd (omega (arith, below)), c.new-handover.ensures (tables_of c.args.config.now c.args.tables.now) c.args.tables.now)
 
 pub loop-k-preserved : goal.loop-k-preserved
 loop-k-preserved g c =
