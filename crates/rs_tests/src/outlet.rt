@@ -5,6 +5,8 @@
 //! `community_stripped`, `strip_large_of_one`, `route_refresh` and `told_again_by_the_operator` show it.
 
 ghost use Rattle.rs_adjin.specs.AdjIns.{AreNoted};
+ghost use Rattle.rs_outlet.specs.Decided.HeldBy.{tables_of};
+ghost use Rattle.rs_outlet.specs.Decided.Precedents.{IsHandover};
 ghost use Rattle.rs_policy.specs.Noted.{note_of_import};
 
 mod alike;
@@ -133,11 +135,18 @@ impl Exchange {
         }
     }
 
+    /// What is handed over to the first outlet: nothing.
+    fn handover(&self) -> Handover
+        ensures { IsHandover (tables_of self.now.config self.now.tables) self.now.tables result }
+    {
+        Handover::new(self.alloc)
+    }
+
     /// What a turn answers.
     fn turn(&self, rt: &impl Abort, outlet: &mut Outlet) -> Result<Turned, AllocError> {
         assert!(rt; outlet.client() < self.config.clients());
         assert!(rt; self.tables.clients() == self.config.clients());
-        let mut handover = Handover::new(self.alloc);
+        let mut handover = self.handover();
         outlet.turn(&self.tables, &self.config, &mut handover)
     }
 

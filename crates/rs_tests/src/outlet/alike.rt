@@ -135,7 +135,7 @@ fn host_of(rt: &impl Abort, exchange: &Exchange, outlet: &Outlet) -> u32 {
 fn clients_share_what_rules_left(rt: HostRuntime) {
     let mut exchange = Exchange::of(&rt, rt.alloc(), STRIPPED);
     announce(&rt, &mut exchange, SETS, 2, false);
-    let mut handover = Handover::new(rt.alloc());
+    let mut handover = exchange.handover();
     let first = turned(&rt, &exchange, CLIENT, &mut handover);
     let alike = turned(&rt, &exchange, CLIENT + 1, &mut handover);
     let other = turned(&rt, &exchange, CLIENT + 2, &mut handover);
@@ -155,7 +155,7 @@ fn what_was_decided_serves_those_alike(rt: HostRuntime) {
     let mut alike = waiting(&rt, &exchange, CLIENT + 1);
     let mut other = waiting(&rt, &exchange, CLIENT + 2);
     announce(&rt, &mut exchange, SETS, 2, false);
-    let mut handover = Handover::new(rt.alloc());
+    let mut handover = exchange.handover();
     let count = u32::from(SETS) * 2;
     exchange.touch(&rt, &mut first, 0..count, 1);
     exchange.touch(&rt, &mut alike, 0..count, 1);
@@ -175,7 +175,7 @@ fn what_was_decided_serves_those_alike(rt: HostRuntime) {
 fn outlets_share_the_same_rows_alone(rt: HostRuntime) {
     let mut exchange = Exchange::of(&rt, rt.alloc(), STRIPPED);
     announce(&rt, &mut exchange, SETS, 2, false);
-    let mut handover = Handover::new(rt.alloc());
+    let mut handover = exchange.handover();
     let mut first = turned(&rt, &exchange, CLIENT, &mut handover);
     let mut alike = turned(&rt, &exchange, CLIENT + 1, &mut handover);
     let mut other = turned(&rt, &exchange, CLIENT + 2, &mut handover);
@@ -194,7 +194,7 @@ fn outlets_share_the_same_rows_alone(rt: HostRuntime) {
 fn shared_rows_are_written_apart(rt: HostRuntime) {
     let mut exchange = Exchange::of(&rt, rt.alloc(), STRIPPED);
     announce(&rt, &mut exchange, SETS, 2, false);
-    let mut handover = Handover::new(rt.alloc());
+    let mut handover = exchange.handover();
     let mut first = turned(&rt, &exchange, CLIENT, &mut handover);
     let mut alike = turned(&rt, &exchange, CLIENT + 1, &mut handover);
     drop(handover);
@@ -235,7 +235,7 @@ fn take_back(rt: &impl Abort, exchange: &mut Exchange, count: u32) {
 fn what_two_were_told_is_there_once(rt: HostRuntime) {
     let mut exchange = Exchange::of(&rt, rt.alloc(), STRIPPED);
     announce(&rt, &mut exchange, SETS, 2, false);
-    let mut handover = Handover::new(rt.alloc());
+    let mut handover = exchange.handover();
     let mut first = turned(&rt, &exchange, CLIENT, &mut handover);
     let mut alike = turned(&rt, &exchange, CLIENT + 1, &mut handover);
     drop(handover);
@@ -264,7 +264,7 @@ fn what_two_were_told_is_there_once(rt: HostRuntime) {
 fn prefixes_share_what_any_of_many_strips_left(rt: HostRuntime) {
     let mut exchange = Exchange::of(&rt, rt.alloc(), MANY_STRIPS);
     announce(&rt, &mut exchange, STRIPS, 100, true);
-    let mut handover = Handover::new(rt.alloc());
+    let mut handover = exchange.handover();
     let outlet = turned(&rt, &exchange, CLIENT, &mut handover);
     drop(handover);
     have_owners(&rt, &exchange, &outlet, STRIPS, 2);
