@@ -4,10 +4,9 @@ play.py refused PROGRAM FOLDER
 
 Of the requests for memory of a session, by 1 and by 2 workers, each is refused in a run of its own. It must show as a
 line `memory NAME`, with `close NAME` where octets came and without at a turn; as `rules refused: out of memory`; or as status 3
-with the words `out of memory`, and then what was written is a front of what is written else. Six kinds show as nothing: the
+with the words `out of memory`, and then what was written is a front of what is written else. Five kinds show as nothing: the
 one request of READING, those for a number that octets turn out not to need, since their prefix or their attributes have one,
-those by which a thread is started for a turn by 2 workers, which is then done on one, those of a turn for what serves other clients too, choices and what rules left of routes, which is then made anew for these, that
-for room for what comes to wait at a turn, which is asked for again as it is needed, and those
+those by which a thread is started for a turn by 2 workers, which is then done on one, those of a turn for what serves other clients too, choices and what rules left of routes, which is then made anew for these, and those
 behind a turn by which other clients can have the same rows, which are then the client's own still. Behind the
 session the clients that were lost come again and say again what they said, a turn and room for all follow, and each
 Established client must hold what the plain function says (`holding.py`).
@@ -123,8 +122,6 @@ OF_A_THREAD = 1
 OF_NUMBERS = 1
 # For what serves other clients too a worker makes this many at a turn.
 OF_CHOICES = 1
-# Room for what comes to wait is asked for by this many at a client's turn, and where that is refused once more.
-OF_ROOM = 1
 # That others can have its rows, which lie in one block in these sessions, a client makes this many behind a turn.
 OF_ROWS = 1
 
@@ -144,8 +141,8 @@ def sweep(program, library, folder, name, workers):
         "by status 3": number,
         "nowhere, by the words": READING,
         "nowhere, at octets": OF_NUMBERS * sum(line.startswith("octets ") for line in refusals.lines),
-        "nowhere, at turn": (OF_CHOICES + (OF_ROOM + OF_ROWS) * clients) * turns,
-        "nowhere, by a thread": (OF_A_THREAD + OF_CHOICES * workers + (OF_ROOM + OF_ROWS) * clients) * turns,
+        "nowhere, at turn": (OF_CHOICES + OF_ROWS * clients) * turns,
+        "nowhere, by a thread": (OF_A_THREAD + OF_CHOICES * workers + OF_ROWS * clients) * turns,
     }
     wrong = [f"{count} shown {kind}" for kind, count in kinds.items() if count > most.get(kind, 0)] + otherwise
     told = ", ".join(f"{count} {kind}" for kind, count in sorted(kinds.items()))

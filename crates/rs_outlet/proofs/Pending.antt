@@ -16,6 +16,8 @@ pub mod MarkedAll
 pub mod Reopened
 pub mod Owing
 pub mod Carrying
+pub mod News
+pub mod Pieces
 pub mod Backing
 pub mod Unchanged
 pub mod Draining

@@ -5,6 +5,8 @@ pub mod Alike
 pub mod HeldBy
 pub mod Passing
 pub mod Choices
+pub mod News
+pub mod Plans
 pub mod Precedents
 pub mod Memo
 pub mod Rests

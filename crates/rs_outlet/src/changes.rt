@@ -149,7 +149,7 @@ fn are_most_of_block(changes: &[Change], index: usize) -> bool {
 }
 
 /// Prepares the rows of changes.
-fn prepare(rows: &mut Rows, changes: &[Change]) -> Result<(), AllocError>
+pub(crate) fn prepare(rows: &mut Rows, changes: &[Change]) -> Result<(), AllocError>
     requires { AreBelow changes.now (length rows.old.rows.items) }
     ensures rows { rows.new.rows.items ≡ rows.old.rows.items }
     ensures used { rows.new.used ≡ rows.old.used }
@@ -159,53 +159,6 @@ fn prepare(rows: &mut Rows, changes: &[Change]) -> Result<(), AllocError>
         rows.prepare(change.number, are_most_of_block(changes, index))?;
     }
     Ok(())
-}
-
-/// Room for so many slots that may wait beside others: as much as serves these best, or just as much as they take.
-fn room_beside(alloc: Global, waits: &Waits, count: usize) -> Result<Vec<Wait>, AllocError>
-    ensures none { IfOk result (λ fresh. fresh.items ≡ []) }
-    ensures room { IfOk result (λ fresh. count ≤ vec_capacity fresh) }
-{
-    match Vec::with_capacity(alloc, waits.room_for(count)) {
-        Ok(fresh) => Ok(fresh),
-        Err(_) => Vec::with_capacity(alloc, count),
-    }
-}
-
-/// Makes room for changes at numbers below one, and for all that may wait then.
-pub(crate) fn make_room(
-    alloc: Global,
-    rows: &mut Rows,
-    waits: &mut Waits,
-    numbers: usize,
-    changes: &[Change],
-) -> Result<Vec<Wait>, AllocError>
-    requires { AreBelow changes.now numbers }
-    ensures rows { (n : ℕ) → row_at rows.new.rows.items n ≡ row_at rows.old.rows.items n }
-    ensures loc { loc_of rows.new.rows.items ≡ loc_of rows.old.rows.items }
-    ensures numbers { numbers_from 0 rows.new.rows.items ≡ numbers_from 0 rows.old.rows.items }
-    ensures waits { waits.new.slots.items ≡ waits.old.slots.items }
-    ensures chains { waits.new.chains.items ≡ waits.old.chains.items }
-    ensures sorted { waits.new.sorted ≡ waits.old.sorted }
-    ensures room { OnOk result (HaveRows changes.now rows.new.rows) }
-    ensures none { IfOk result (λ fresh. fresh.items ≡ []) }
-    ensures fresh { IfOk result (λ fresh. length changes.now ≤ vec_capacity fresh) }
-    ensures more { OnOk result (open_count waits.old.slots.items + length changes.now ≤ vec_capacity waits.new.slots) }
-    ensures all { OnOk result (rows.new.used + withdrawn_count waits.new.slots.items + length changes.now ≤ vec_capacity waits.new.slots) }
-    ensures used { rows.new.used ≡ rows.old.used }
-    ensures capacity { vec_capacity waits.old.slots ≤ vec_capacity waits.new.slots }
-{
-    rows.grow(numbers)?;
-    prepare(rows, changes)?;
-    let Some(more) = rows.used().checked_add(changes.len()) else {
-        return Err(AllocError);
-    };
-    let Some(count) = waits.len().checked_add(more) else {
-        return Err(AllocError);
-    };
-    waits.reserve(count)?;
-    let fresh = room_beside(alloc, waits, changes.len())?;
-    Ok(fresh)
 }
 
 /// Carries out the changes, for which there is room. Without a change all stays as it is. What waits then is sorted as it

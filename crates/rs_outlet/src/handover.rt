@@ -7,6 +7,7 @@ ghost use Rattle.rs_outlet.specs.Inside.{AreDecided};
 ghost use Rattle.rs_adjin.specs.declared.adj_ins.AdjIns.{AdjIns};
 ghost use Rattle.rs_outlet.specs.Decided.Due.{Held, due_to};
 ghost use Rattle.rs_outlet.specs.Decided.HeldBy.{held_by, AreOfOneServer};
+ghost use Rattle.rs_outlet.specs.Decided.Plans.{IsPlanned};
 ghost use Rattle.rs_outlet.specs.Decided.Precedents.{IsHandover};
 ghost use Rattle.rs_outlet.specs.Decided.Touching.{is_numbered_in};
 
@@ -14,6 +15,7 @@ use crate::answers::Speech;
 use crate::changes::Change;
 use crate::choices::Choices;
 use crate::deciding::Sources;
+use crate::plan::Plan;
 use crate::precedent::Precedent;
 use crate::table::Rows;
 use crate::turn::decide_touched;
@@ -42,7 +44,7 @@ impl Handover {
     }
 
     /// Keeps what was decided for a client at these prefixes, where it can serve others and nothing that was decided at the same
-    /// ones is kept. Where memory is refused, it is not kept.
+    /// ones is kept, and answers whether it did. Where memory is refused, it is not kept.
     fn keep(
         &mut self,
         alloc: Global,
@@ -51,45 +53,49 @@ impl Handover {
         rows: &Rows,
         touched: &[(u32, Prefix)],
         changes: &[Change],
-    )
+    ) -> bool
         requires server { AreOfOneServer sources.now }
         requires handover { IsHandover (held_by sources.now) sources.now.ins.now self.old }
         requires decided { AreDecided sources.now.ins.now (due_to (held_by sources.now) sources.now.client speech) rows.now.rows.items (is_numbered_in touched.now) changes.now }
         ensures { IsHandover (held_by sources.now) sources.now.ins.now self.new }
     {
         if touched.len() < FEWEST {
-            return;
+            return false;
         }
         if let Some(precedent) = &self.precedent
             && precedent.is_of(touched)
         {
-            return;
+            return false;
         }
-        if let Ok(Some(made)) = Precedent::of(alloc, sources, speech, rows, touched, changes) {
-            self.precedent = Some(made);
-        }
+        let Ok(Some(made)) = Precedent::of(alloc, sources, speech, rows, touched, changes) else {
+            return false;
+        };
+        self.precedent = Some(made);
+        true
     }
 
     /// What is decided at these prefixes by what was decided before, if that tells.
-    fn changes_for(
+    fn plan_for(
         &self,
         alloc: Global,
         sources: &Sources<'_>,
         speech: Speech,
         rows: &Rows,
         touched: &[(u32, Prefix)],
-    ) -> Result<Option<Vec<Change>>, AllocError>
+        idle: bool,
+    ) -> Result<Option<Plan>, AllocError>
         requires server { AreOfOneServer sources.now }
         requires handover { IsHandover (held_by sources.now) sources.now.ins.now self.now }
-        ensures { IfOk result (λ found. IfSome found (λ changes. AreDecided sources.now.ins.now (due_to (held_by sources.now) sources.now.client speech) rows.now.rows.items (is_numbered_in touched.now) changes.items)) }
+        ensures { IfOk result (λ found. IfSome found (IsPlanned sources.now.ins.now (due_to (held_by sources.now) sources.now.client speech) rows.now.rows.items (is_numbered_in touched.now) idle)) }
     {
         match &self.precedent {
             None => Ok(None),
-            Some(precedent) => precedent.changes_for(alloc, sources, speech, rows, touched),
+            Some(precedent) => precedent.plan_for(alloc, sources, speech, rows, touched, idle),
         }
     }
 
-    /// Decides what was touched by itself, by what was decided before where that tells.
+    /// Decides what was touched by itself, by what was decided before where that tells. The client whose decision is kept for
+    /// others has it as they will. Where it is `idle`, nothing waits.
     pub(crate) fn decide(
         &mut self,
         alloc: Global,
@@ -97,18 +103,23 @@ impl Handover {
         speech: Speech,
         rows: &Rows,
         touched: &[(u32, Prefix)],
-    ) -> Result<Vec<Change>, AllocError>
+        idle: bool,
+    ) -> Result<Plan, AllocError>
         requires server { AreOfOneServer sources.now }
         requires handover { IsHandover (held_by sources.now) sources.now.ins.now self.old }
         requires once { IsDistinct nat_eq (keys_of touched.now) }
-        ensures decided { IfOk result (λ changes. AreDecided sources.now.ins.now (due_to (held_by sources.now) sources.now.client speech) rows.now.rows.items (is_numbered_in touched.now) changes.items) }
+        ensures decided { IfOk result (IsPlanned sources.now.ins.now (due_to (held_by sources.now) sources.now.client speech) rows.now.rows.items (is_numbered_in touched.now) idle) }
         ensures handover { IsHandover (held_by sources.now) sources.now.ins.now self.new }
     {
-        if let Some(changes) = self.changes_for(alloc, sources, speech, rows, touched)? {
-            return Ok(changes);
+        if let Some(plan) = self.plan_for(alloc, sources, speech, rows, touched, idle)? {
+            return Ok(plan);
         }
         let changes = decide_touched(alloc, sources, speech, rows, touched, &mut self.choices)?;
-        self.keep(alloc, sources, speech, rows, touched, &changes);
-        Ok(changes)
+        if self.keep(alloc, sources, speech, rows, touched, &changes)
+            && let Some(plan) = self.plan_for(alloc, sources, speech, rows, touched, idle)?
+        {
+            return Ok(plan);
+        }
+        Ok(Plan::Own(changes))
     }
 }

@@ -11,9 +11,10 @@
 //!   due at one prefix, and `chosen`, which says whose route is the best; `memo` is what it leaves to the
 //!   next prefix, `choices` and `stripped` to the outlets that turn next, as `precedent` does: what was decided for a client serves
 //!   others. All of that is handed from one to the next by `handover`.
-//! - `changes` puts that into `rows`, the Loc-RIB by number in a `table` of blocks that outlets share, and into
-//!   `waiting`, what is to be sent: slots in two `parts`, of which `merging` makes one. `marking` makes all that was
-//!   told wait again.
+//! - What a turn changes is a `plan`: `changes` of the client's own, or what is `news` to several clients in `pieces`, of which
+//!   those that are `filled` are a block of rows. It is put into `rows`, the Loc-RIB by number in a `table` of blocks that outlets
+//!   share, and into `waiting`, what is to be sent: slots in two `parts`, of which `merging` makes one. `marking` makes all that
+//!   was told wait again.
 //! - `choosing` says which slots the next UPDATE is about, going along the `chains` of slots with the
 //!   same attributes; `sending` and `fill` begin the next message, which may have been `written` for another client.
 //! - `sharing` lets outlets that are due the same have one copy of their rows.
@@ -27,11 +28,15 @@ mod choices;
 mod chosen;
 mod deciding;
 mod fill;
+mod filled;
 mod handover;
 pub mod laws;
 mod memo;
+mod news;
 mod noting;
 mod outlet;
+mod pieces;
+mod plan;
 mod precedent;
 mod queries;
 mod routes;

@@ -1,8 +1,8 @@
 //! What was decided for one client serves those that are decided alike: where they hold none of the prefixes either, and have
 //! nothing in their rows, the same is due to them.
 
-ghost use Rattle.std.specs.Prelude.{◌≡◌, ◌<◌, None, Some, map, nat_eq, length, IsTrue, IfOk, IfSome, OnOk};
-ghost use Rattle.std.specs.List.{IsDistinct};
+ghost use Rattle.std.specs.Prelude.{◌≡◌, ◌<◌, ℕ, List, None, Some, true, length, map, IsTrue, IfOk, IfSome};
+ghost use Rattle.rs_outlet.specs.declared.changes.Change.{Change};
 ghost use Rattle.std.specs.Map.{keys_of};
 ghost use Rattle.rs_octets.specs.Prefixes.{Prefix};
 ghost use Rattle.rs_adjin.specs.AdjIns.{number_of};
@@ -10,26 +10,30 @@ ghost use Rattle.rs_rows.specs.Rows.{row_at};
 ghost use Rattle.rs_outlet.specs.Inside.{AreDecided};
 ghost use Rattle.rs_outlet.specs.Decided.Due.{due_to};
 ghost use Rattle.rs_outlet.specs.Decided.HeldBy.{held_by, AreOfOneServer};
-ghost use Rattle.rs_outlet.specs.Decided.Precedents.{AreNewTo, IsPrecedent, seen};
+ghost use Rattle.rs_outlet.specs.Decided.News.{seen};
+ghost use Rattle.rs_outlet.specs.Decided.Plans.{IsPlanned, changes_in};
+ghost use Rattle.rs_outlet.specs.Decided.Precedents.{AreNewTo, IsPrecedent};
 ghost use Rattle.rs_outlet.specs.Decided.Touching.{is_numbered_in};
 
 use crate::answers::Speech;
 use crate::changes::Change;
 use crate::deciding::Sources;
+use crate::pieces::{Piece, copied, pieces_of, single_changes};
+use crate::plan::Plan;
 use crate::table::Rows;
 use rs_octets::Prefix;
 use rs_policy::judges_alike;
 use std::alloc::{AllocError, Global};
 
-/// What was decided for a client at prefixes of which it held none, while its rows had nothing there: the changes, one for
-/// each prefix that is due to it.
+/// What was decided for a client at prefixes of which it held none, while its rows had nothing there: news of each prefix that
+/// is due to it.
 #[derive(Drop)]
 pub(crate) struct Precedent {
     client: usize,
     speech: Speech,
     /// What was touched.
     touched: Vec<(u32, Prefix)>,
-    changes: Vec<Change>,
+    pieces: Vec<Piece>,
 }
 
 /// Whether a client does not hold the prefix of a number, and its row has nothing.
@@ -67,25 +71,6 @@ fn have_same_numbers(one: &[(u32, Prefix)], other: &[(u32, Prefix)]) -> bool
     true
 }
 
-/// The same changes, which share their attributes.
-fn copied(alloc: Global, changes: &[Change]) -> Result<Vec<Change>, AllocError>
-    ensures { IfOk result (λ copies. map seen copies.items ≡ map seen changes.now) }
-{
-    let mut copies = Vec::with_capacity(alloc, changes.len())?;
-    for change in changes {
-        let due = match &change.due {
-            None => None,
-            Some(attrs) => Some(attrs.clone()?),
-        };
-        copies.push(Change {
-            number: change.number,
-            prefix: change.prefix,
-            due,
-        })?;
-    }
-    Ok(copies)
-}
-
 impl Precedent {
     /// What was decided for a client at these prefixes, where it can serve others.
     pub(crate) fn of(
@@ -105,11 +90,14 @@ impl Precedent {
         {
             return Ok(None);
         }
+        let Some(pieces) = pieces_of(alloc, changes)? else {
+            return Ok(None);
+        };
         Ok(Some(Precedent {
             client: sources.client,
             speech,
             touched: touched.to_vec(alloc)?,
-            changes: copied(alloc, changes)?,
+            pieces,
         }))
     }
 
@@ -127,26 +115,50 @@ impl Precedent {
         have_same_numbers(&self.touched, touched)
     }
 
-    /// What is decided for a client at these prefixes, where that follows from it.
-    pub(crate) fn changes_for(
+    /// Whether the same is decided for a client at these prefixes: it is decided alike, and its rows have nothing there.
+    fn serves(
+        &self,
+        sources: &Sources<'_>,
+        speech: Speech,
+        rows: &Rows,
+        touched: &[(u32, Prefix)],
+    ) -> bool
+        requires server { AreOfOneServer sources.now }
+        requires precedent { IsPrecedent (held_by sources.now) sources.now.ins.now self.now }
+        ensures decided { IsTrue result → (changes : List Change) → map seen changes ≡ map seen (changes_in self.now.pieces.items) → AreDecided sources.now.ins.now (due_to (held_by sources.now) sources.now.client speech) rows.now.rows.items (is_numbered_in touched.now) changes }
+        ensures free { IsTrue result → (n : ℕ) → is_numbered_in touched.now n ≡ true → row_at rows.now.rows.items n ≡ None }
+    {
+        if !self.is_spoken(speech)
+            || !self.is_of(touched)
+            || !judges_alike(sources.config, self.client, sources.client)
+        {
+            return false;
+        }
+        are_new(sources, rows, touched)
+    }
+
+    /// What is decided for a client at these prefixes, where that follows from it. Where it is `idle`, so that nothing waits,
+    /// it takes the pieces.
+    pub(crate) fn plan_for(
         &self,
         alloc: Global,
         sources: &Sources<'_>,
         speech: Speech,
         rows: &Rows,
         touched: &[(u32, Prefix)],
-    ) -> Result<Option<Vec<Change>>, AllocError>
+        idle: bool,
+    ) -> Result<Option<Plan>, AllocError>
         requires server { AreOfOneServer sources.now }
         requires precedent { IsPrecedent (held_by sources.now) sources.now.ins.now self.now }
-        ensures { IfOk result (λ found. IfSome found (λ changes. AreDecided sources.now.ins.now (due_to (held_by sources.now) sources.now.client speech) rows.now.rows.items (is_numbered_in touched.now) changes.items)) }
+        ensures { IfOk result (λ found. IfSome found (IsPlanned sources.now.ins.now (due_to (held_by sources.now) sources.now.client speech) rows.now.rows.items (is_numbered_in touched.now) idle)) }
     {
-        if !self.is_spoken(speech)
-            || !self.is_of(touched)
-            || !judges_alike(sources.config, self.client, sources.client)
-            || !are_new(sources, rows, touched)
-        {
+        if !self.serves(sources, speech, rows, touched) {
             return Ok(None);
         }
-        Ok(Some(copied(alloc, &self.changes)?))
+        if idle {
+            Ok(Some(Plan::Shared(copied(alloc, &self.pieces)?)))
+        } else {
+            Ok(Some(Plan::Own(single_changes(alloc, &self.pieces)?)))
+        }
     }
 }

@@ -1,12 +1,15 @@
 //! The Loc-RIB of a client: a row for each number that the Adj-RIBs-In gave to a prefix.
 
-ghost use Rattle.std.specs.Prelude.{◌≡◌, ◌≤◌, ◌<◌, ◌+◌, ℕ, [], Some, None, IfOk, OnOk, length, slice_set, option_map};
+ghost use Rattle.std.specs.Prelude.{◌≡◌, ◌≢◌, ◌≤◌, ◌<◌, ◌+◌, ◌*◌, ◌/◌, ℕ, [], Some, None, IfOk, OnOk, length, slice_set, option_map};
 ghost use Rattle.std.specs.Arc.{arc_value};
 ghost use Rattle.rs_rows.specs.Cells.{taken_of};
 ghost use Rattle.rs_rows.specs.Places.{lent_row};
 ghost use Rattle.rs_rows.specs.Rows.{IsPrepared, row_at, shown};
+ghost use Rattle.rs_outlet.specs.Decided.News.{AreFree, written};
+ghost use Rattle.rs_outlet.specs.Decided.Plans.{news_within};
 ghost use Rattle.rs_outlet.specs.Inside.{attributes_at, loc_of, numbers_from};
 
+use crate::filled::Whole;
 use crate::table::Rows;
 use rs_attrs::Attrs;
 use rs_octets::Prefix;
@@ -126,6 +129,22 @@ impl Rows {
         let _count = self.rows.count();
         self.rows.put(number, prefix, attrs);
         self.used += 1;
+    }
+
+    /// The free rows of a block have news, as other clients have them: the block is shared.
+    pub(crate) fn put_block(&mut self, whole: Whole)
+        requires row { (arc_value whole.filled).place * 16 + 15 < length self.old.rows.items }
+        requires free { AreFree self.old.rows.items (news_within whole) }
+        ensures rows { self.new.rows.items ≡ written (news_within whole) self.old.rows.items }
+        ensures room { length self.new.rows.items ≡ length self.old.rows.items }
+        ensures kept { (m : ℕ) → m / 16 ≢ (arc_value whole.filled).place → IsPrepared self.old.rows.prepared m → IsPrepared self.new.rows.prepared m }
+        ensures used { self.new.used ≡ self.old.used + length (news_within whole) }
+    {
+        let Whole { filled, block } = whole;
+        // for the prover: as many more can be counted
+        let _count = self.rows.count();
+        self.rows.put_block(filled.place, block);
+        self.used += filled.news.len();
     }
 
     /// Where another client has the same rows in a block that a turn wrote, both have one copy.

@@ -27,12 +27,14 @@ pub(crate) fn most_prefixes(limit: Limit) -> usize
     limit.octets() - EMPTY_UPDATE
 }
 
-/// One more than a message of this limit holds of prefixes of 17 to 24 bits, as most are.
+/// More than a message of this limit holds of prefixes of 17 to 24 bits, as most are, with a few shorter ones among them: a
+/// sixteenth more than of those alone.
 pub(crate) fn usual_prefixes(limit: Limit) -> usize
     ensures most { result ≤ limit_octets limit - 23 }
     ensures some { 0 < result }
 {
-    most_prefixes(limit) / 4 + 1
+    let most = most_prefixes(limit);
+    most / 4 + most / 64 + 1
 }
 
 /// The most prefixes that a message to a client holds.

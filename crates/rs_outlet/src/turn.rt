@@ -1,6 +1,6 @@
 //! A turn: what is touched is decided anew, and what the client was not told so waits.
 
-ghost use Rattle.std.specs.Prelude.{◌≡◌, List, Option, None, Some, true, false, nat_eq, nat_lt, count_by, map, option_map, length, if◌then◌else◌, IsTrue, IfOk, OnOk, OnErr, All};
+ghost use Rattle.std.specs.Prelude.{◌≡◌, Bool, List, Option, None, Some, true, false, nat_eq, nat_lt, count_by, map, option_map, length, if◌then◌else◌, IsTrue, IfOk, OnOk, OnErr, All};
 ghost use Rattle.std.specs.List.{IsDistinct};
 ghost use Rattle.std.specs.Map.{keys_of};
 ghost use Rattle.std.specs.FinMap as fin;
@@ -19,15 +19,17 @@ ghost use Rattle.rs_rows.specs.Rows.{Row, row_at};
 ghost use Rattle.rs_outlet.specs.Decided.Touching.{is_number_touched, is_numbered_in, touched_of};
 ghost use Rattle.rs_outlet.specs.Decided.Choices.{AreChoices};
 ghost use Rattle.rs_outlet.specs.Decided.Memo.{IsMemo};
+ghost use Rattle.rs_outlet.specs.Decided.Plans.{IsPlanned};
 ghost use Rattle.rs_outlet.specs.Decided.Precedents.{IsHandover};
 ghost use Rattle.rs_outlet.specs.Decided.Passing.{attributes_passed};
 
 use crate::answers::{Last, Speech, Turned};
-use crate::changes::{Change, commit, make_room};
+use crate::changes::Change;
 use crate::choices::Choices;
 use crate::deciding::{Draft, Passed, Sources, decide};
 use crate::handover::Handover;
 use crate::outlet::Outlet;
+use crate::plan::Plan;
 use crate::table::Rows;
 use crate::touched::{TOUCHED_MAX, Touched};
 use rs_adjin::Holders;
@@ -38,7 +40,7 @@ use std::alloc::{AllocError, Global};
 /// The changes of a turn, how many prefixes were decided, and whether all were.
 #[derive(Drop)]
 pub(crate) struct Decided {
-    changes: Vec<Change>,
+    plan: Plan,
     count: usize,
     whole: bool,
 }
@@ -149,7 +151,8 @@ fn count_left(sources: &Sources<'_>, rows: &Rows, touched: &[(u32, Prefix)]) -> 
 }
 
 /// Decides what may be stale. Where it is more than is touched one by one, the turn is whole, and each
-/// other prefix that stands has what is due: a client holds it, so that it is counted already.
+/// other prefix that stands has what is due: a client holds it, so that it is counted already. Where the client is `idle`,
+/// nothing waits.
 fn decide_stale(
     alloc: Global,
     sources: &Sources<'_>,
@@ -157,20 +160,21 @@ fn decide_stale(
     rows: &Rows,
     touched: &[(u32, Prefix)],
     handover: &mut Handover,
+    idle: bool,
 ) -> Result<Decided, AllocError>
     requires server { AreOfOneServer sources.now }
     requires handover { IsHandover (held_by sources.now) sources.now.ins.now handover.old }
     requires once { IsDistinct nat_eq (keys_of touched.now) }
     ensures handover { IsHandover (held_by sources.now) sources.now.ins.now handover.new }
-    ensures changes { IfOk result (λ decided. AreDecided sources.now.ins.now (due_to (held_by sources.now) sources.now.client speech) rows.now.rows.items (is_numbered_in touched.now) decided.changes.items) }
+    ensures plan { IfOk result (λ decided. IsPlanned sources.now.ins.now (due_to (held_by sources.now) sources.now.client speech) rows.now.rows.items (is_numbered_in touched.now) idle decided.plan) }
     ensures whole { IfOk result (λ decided. decided.whole ≡ nat_lt 4096 (length touched.now)) }
     ensures count { IfOk result (λ decided. decided.whole ≡ false → decided.count ≡ length touched.now) }
     ensures all { HaveNumbers touched.now sources.now.ins.now → AreFresh sources.now.ins.now (due_to (held_by sources.now) sources.now.client speech) rows.now.rows.items (is_numbered_in touched.now) → IfOk result (λ decided. decided.whole ≡ true → IsNumberOf (is_counted sources.now.ins.now rows.now.rows.items (any_holds (held_by sources.now))) decided.count) }
 {
-    let changes = handover.decide(alloc, sources, speech, rows, touched)?;
+    let plan = handover.decide(alloc, sources, speech, rows, touched, idle)?;
     if touched.len() <= TOUCHED_MAX {
         return Ok(Decided {
-            changes,
+            plan,
             count: touched.len(),
             whole: false,
         });
@@ -180,7 +184,7 @@ fn decide_stale(
         return Err(AllocError);
     };
     Ok(Decided {
-        changes,
+        plan,
         count,
         whole: true,
     })
@@ -238,7 +242,7 @@ fn decide_all(
     requires server { AreOfOneServer sources.now }
     requires choices { AreChoices (held_by sources.now) sources.now.ins.now choices.old.kept.items }
     ensures choices { AreChoices (held_by sources.now) sources.now.ins.now choices.new.kept.items }
-    ensures changes { IfOk result (λ decided. AreDecided sources.now.ins.now (due_to (held_by sources.now) sources.now.client speech) rows.now.rows.items (λ number. true) decided.changes.items) }
+    ensures plan { (idle : Bool) → IfOk result (λ decided. IsPlanned sources.now.ins.now (due_to (held_by sources.now) sources.now.client speech) rows.now.rows.items (λ number. true) idle decided.plan) }
     ensures count { IfOk result (λ decided. IsNumberOf (is_counted sources.now.ins.now rows.now.rows.items (any_holds (held_by sources.now))) decided.count) }
     ensures whole { IfOk result (λ decided. decided.whole ≡ true) }
 {
@@ -254,13 +258,14 @@ fn decide_all(
     }
     *choices = draft.into_choices();
     Ok(Decided {
-        changes,
+        plan: Plan::Own(changes),
         count,
         whole: true,
     })
 }
 
-/// Decides what is touched, from the tables and the rules: of a whole turn what may be stale.
+/// Decides what is touched, from the tables and the rules: of a whole turn what may be stale. Where the client is `idle`,
+/// nothing waits.
 fn decide_all_touched(
     alloc: Global,
     sources: &Sources<'_>,
@@ -268,18 +273,19 @@ fn decide_all_touched(
     rows: &Rows,
     touched: &Touched,
     handover: &mut Handover,
+    idle: bool,
 ) -> Result<Decided, AllocError>
     requires server { AreOfOneServer sources.now }
     requires handover { IsHandover (held_by sources.now) sources.now.ins.now handover.old }
     ensures handover { IsHandover (held_by sources.now) sources.now.ins.now handover.new }
-    ensures changes { IfOk result (λ decided. AreDecided sources.now.ins.now (due_to (held_by sources.now) sources.now.client speech) rows.now.rows.items (is_number_touched touched.now.all touched.now.prefixes.items) decided.changes.items) }
+    ensures plan { IfOk result (λ decided. IsPlanned sources.now.ins.now (due_to (held_by sources.now) sources.now.client speech) rows.now.rows.items (is_number_touched touched.now.all touched.now.prefixes.items) idle decided.plan) }
     ensures whole { HaveNumbers touched.now.prefixes.items sources.now.ins.now → IfOk result (λ decided. decided.whole ≡ is_whole (touched_of touched.now.all touched.now.prefixes.items)) }
     ensures count { HaveNumbers touched.now.prefixes.items sources.now.ins.now → IfOk result (λ decided. (prefixes : Prefixes) → touched_of touched.now.all touched.now.prefixes.items ≡ Some prefixes → decided.count ≡ set.len prefixes) }
     ensures all { HaveNumbers touched.now.prefixes.items sources.now.ins.now → AreFresh sources.now.ins.now (due_to (held_by sources.now) sources.now.client speech) rows.now.rows.items (is_number_touched touched.now.all touched.now.prefixes.items) → IfOk result (λ decided. decided.whole ≡ true → IsNumberOf (is_counted sources.now.ins.now rows.now.rows.items (any_holds (held_by sources.now))) decided.count) }
 {
     match touched.list(alloc)? {
         None => decide_all(alloc, sources, speech, rows, &mut handover.choices),
-        Some(list) => decide_stale(alloc, sources, speech, rows, &list, handover),
+        Some(list) => decide_stale(alloc, sources, speech, rows, &list, handover, idle),
     }
 }
 
@@ -313,35 +319,26 @@ impl Outlet {
         ensures numbered { AreNumbered self.old sources.now.ins.now → AreNumbered self.new sources.now.ins.now }
         ensures handover { IsHandover (held_by sources.now) sources.now.ins.now handover.new }
     {
-        let Decided {
-            changes,
-            count,
-            whole,
-        } = decide_all_touched(
+        let idle = self.waits.is_idle();
+        let Decided { plan, count, whole } = decide_all_touched(
             self.alloc,
             sources,
             speech,
             &self.rows,
             &self.touched,
             handover,
+            idle,
         )?;
         let turned = Turned {
             decided: count,
             whole,
         };
         let numbers = sources.ins.numbers();
-        let fresh = make_room(
-            self.alloc,
+        let fresh = plan.make_room(self.alloc, &mut self.rows, &mut self.waits, numbers)?;
+        self.asked &= plan.is_empty();
+        plan.carry_out(
             &mut self.rows,
             &mut self.waits,
-            numbers,
-            &changes,
-        )?;
-        self.asked &= changes.is_empty();
-        commit(
-            &mut self.rows,
-            &mut self.waits,
-            changes,
             fresh,
             &mut handover.choices.sorting,
         );

@@ -7,7 +7,7 @@
 //! chained to the next one that may have the same attributes (`chains`, `linking`). A message is read off along such a chain and slot
 //! by slot in the late part, the lesser prefix first. `sorting` is how new slots come into order, for several outlets.
 
-ghost use Rattle.std.specs.Prelude.{List, ◌≡◌, ◌≤◌, ◌<◌, ◌+◌, ℕ, Option, None, Some, [], true, false, drop, length, take, vec_len, slice_get, slice_set, option_map, if◌then◌else◌, IfSome, IsTrue, OnOk, ◌++◌};
+ghost use Rattle.std.specs.Prelude.{List, ◌≡◌, ◌≤◌, ◌<◌, ◌+◌, ℕ, nat_eq, Option, None, Some, [], true, false, drop, length, take, vec_len, slice_get, slice_set, option_map, if◌then◌else◌, IfSome, IsTrue, OnOk, ◌++◌};
 ghost use Rattle.std.specs.List.{AllWithin, Contains, IsDistinct, list_any};
 ghost use Rattle.std.specs.Arc.{arc_value};
 ghost use Rattle.std.specs.Ordering.{eq_by_cmp};
@@ -146,6 +146,13 @@ impl Waits {
         ensures { result ≡ open_count self.now.slots.items }
     {
         self.waiting
+    }
+
+    /// Whether no prefix waits.
+    pub(crate) fn is_idle(&self) -> bool
+        ensures { result ≡ nat_eq (open_count self.now.slots.items) 0 }
+    {
+        self.waiting == 0
     }
 
     /// Makes room for so many slots.

@@ -1,11 +1,11 @@
 -- The rows of blocks, one after the other, as they are read and written.
-use Rattle.std.proofs.Common.{◌≡◌, ◌<◌, ◌≤◌, ◌+◌, ◌-◌, ◌*◌, ◌/◌, ◌%◌, ℕ, zero, suc, Bool, true, Option, None, Some, List, [], ◌∷◌, ◌++◌, get_or, length, take, map, replicate, set, refl, sym, ap, subst, ◌∙◌, arith}
+use Rattle.std.proofs.Common.{◌≡◌, ◌≢◌, ◌<◌, ◌≤◌, ◌+◌, ◌-◌, ◌*◌, ◌/◌, ◌%◌, ℕ, zero, suc, Bool, true, Option, None, Some, List, [], ◌∷◌, ◌++◌, get_or, length, take, map, replicate, set, refl, sym, ap, subst, ◌∙◌, arith}
 use Rattle.std.specs.Prelude.{slice_get}
 use Rattle.std.specs.Arc.{arc_value}
 use Rattle.std.specs.List.{flat_map}
 use Rattle.std.proofs.lemmas.List.{append_assoc, append-nil, length-append, length-replicate, replicate-append-replicate, set-append_left, set-append_right}
 use Rattle.std.proofs.lemmas.Option.{same_Some}
-use Rattle.rs_rows.specs.Rows.{Row, IsPrepared, Listed, row_at, joined}
+use Rattle.rs_rows.specs.Rows.{Row, IsPrepared, Listed, row_at, joined, written_from}
 use Rattle.rs_rows.specs.Blocks.{IsGrown, free_rows, is_own, listed, rows_in}
 use Rattle.rs_rows.specs.declared.part.Part.{Part}
 use Rattle.rs_rows.specs.declared.part.Part.TheVariants as part
@@ -175,3 +175,33 @@ rows_more (p ∷ ps) = ap (λ xs. rows_in p ++ xs) (rows_more ps) ∙ sym (appen
 
 pub grown_more : (xs : List (Option Row)) (ps : List Part) → IsGrown xs (rows_of ps) → IsGrown xs (rows_of (ps ++ part.Free ∷ []))
 grown_more xs ps (k, is) = (k + 16, rows_more ps ∙ ap (λ ys. ys ++ free_rows) is ∙ append_assoc xs (replicate k None) free_rows ∙ ap (λ ys. xs ++ ys) (replicate-append-replicate k 16 None))
+
+-- ---- a block in place of the rows that were
+
+written_past : (front : List (Option Row)) (n m : ℕ) (xs ys : List (Option Row)) → m ≡ length front + n → written_from m xs (front ++ ys) ≡ front ++ written_from n xs ys
+written_past front n m [] ys is = refl
+written_past front n m (x ∷ xs) ys is =
+    ap (written_from (suc m) xs) (set-append_right front ys (length front) m x refl (omega (arith, is)) ∙ ap (λ k. front ++ set ys k x) (let e : m - length front ≡ n = omega (arith, is) in e))
+    ∙ written_past front (suc n) (suc m) xs (set ys n x) (omega (arith, is))
+
+written_front : (xs ys rest : List (Option Row)) → length ys ≡ length xs → written_from 0 xs (ys ++ rest) ≡ xs ++ rest
+written_front [] [] rest is = refl
+written_front [] (y ∷ ys) rest is = absurd (omega (arith, is))
+written_front (x ∷ xs) [] rest is = absurd (omega (arith, is))
+written_front (x ∷ xs) (y ∷ ys) rest is = written_past (x ∷ []) 0 1 xs (ys ++ rest) (omega arith) ∙ ap (λ zs. x ∷ zs) (written_front xs ys rest (omega (arith, is)))
+
+pub block_written : (ps : List Part) (k n : ℕ) (q : Part) → n ≡ k * 16 → k < length ps → rows_of (set ps k q) ≡ written_from n (rows_in q) (rows_of ps)
+block_written [] k n q at below = absurd (omega (arith, below))
+block_written (o ∷ ps) zero n q at below =
+    sym (ap (λ m. written_from m (rows_in q) (rows_in o ++ rows_of ps)) (let e : n ≡ 0 = omega (arith, at) in e) ∙ written_front (rows_in q) (rows_in o) (rows_of ps) (sixteen o ∙ sym (sixteen q)))
+block_written (o ∷ ps) (suc k) n q at below =
+    ap (λ xs. rows_in o ++ xs) (block_written ps k (n - 16) q (omega (arith, at)) (omega (arith, below)))
+    ∙ sym (written_past (rows_in o) (n - 16) n (rows_in q) (rows_of ps) (omega (arith, at, sixteen o)))
+
+-- the other blocks are prepared as they were
+pub own_apart : (ps : List Part) (k m : ℕ) (q : Part) → m ≢ k → slice_get (map is_own ps) m ≡ Some true → slice_get (map is_own (set ps k q)) m ≡ Some true
+own_apart [] k m q ne own = own
+own_apart (o ∷ ps) zero zero q ne own = absurd (ne refl)
+own_apart (o ∷ ps) zero (suc m) q ne own = own
+own_apart (o ∷ ps) (suc k) zero q ne own = own
+own_apart (o ∷ ps) (suc k) (suc m) q ne own = own_apart ps k m q (λ e. ne (ap suc e)) own

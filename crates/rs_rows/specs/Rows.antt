@@ -1,5 +1,5 @@
 -- The rows of a Loc-RIB, by the numbers of their prefixes.
-use Rattle.std.specs.Prelude.{◌≡◌, ◌/◌, ℕ, Bool, true, Option, None, Some, List, slice_get}
+use Rattle.std.specs.Prelude.{◌≡◌, ◌/◌, ℕ, suc, Bool, true, Option, None, Some, List, [], ◌∷◌, slice_get, slice_set}
 use Rattle.rs_octets.specs.Prefixes.{Prefix}
 use Rattle.rs_attrs.specs.Meaning.{Attribute}
 
@@ -29,3 +29,8 @@ pub record Listed : Type 0 where
 -- the block of this number is prepared
 abbrev pub IsPrepared : List Bool → ℕ → Type 0
 IsPrepared prepared n = slice_get prepared (n / 16) ≡ Some true
+
+-- rows written one after the other, from this number on
+abbrev pub written_from : ℕ → List (Option Row) → List (Option Row) → List (Option Row)
+written_from n [] rows = rows
+written_from n (x ∷ xs) rows = written_from (suc n) xs (slice_set rows n x)

@@ -14,7 +14,7 @@ use std::alloc::AllocError;
 use std::sync::Arc;
 
 /// How many rows lie in a block. Of shorter ones more are alike, longer ones take less beside their rows.
-pub(crate) const ROWS: usize = 16;
+pub const ROWS: usize = 16;
 
 /// So many rows are most of a block.
 pub const MOST_OF_BLOCK: usize = ROWS / 2 + 1;
@@ -28,7 +28,7 @@ pub struct Block {
 
 impl Block {
     /// A block whose rows are free.
-    pub(crate) fn free() -> Block
+    pub fn free() -> Block
         ensures { result.rows.items ≡ replicate 16 None }
     {
         Block {
@@ -83,7 +83,7 @@ impl Block {
     }
 
     /// Puts a route into the row at an index.
-    pub(crate) fn put(&mut self, index: usize, prefix: Prefix, attrs: Arc<Attrs>)
+    pub fn put(&mut self, index: usize, prefix: Prefix, attrs: Arc<Attrs>)
         requires { index < 16 }
         ensures { self.new.rows.items ≡ slice_set self.old.rows.items index (Some (record { prefix = prefix; attributes = arc_value attrs })) }
     {

@@ -1,12 +1,12 @@
 //! Rows by number, in blocks.
 
-ghost use Rattle.std.specs.Prelude.{◌≡◌, ◌<◌, ◌≤◌, ◌/◌, ℕ, [], None, Some, length, nat_eq, option_map, slice_set, OnOk};
+ghost use Rattle.std.specs.Prelude.{◌≡◌, ◌≢◌, ◌<◌, ◌≤◌, ◌+◌, ◌*◌, ◌/◌, ℕ, [], None, Some, length, nat_eq, option_map, slice_set, OnOk};
 ghost use Rattle.std.specs.Arc.{arc_value};
 ghost use Rattle.rs_rows.specs.Cells.{taken_of};
-ghost use Rattle.rs_rows.specs.Rows.{IsPrepared, row_at, shown};
+ghost use Rattle.rs_rows.specs.Rows.{IsPrepared, row_at, shown, written_from};
 ghost use Rattle.rs_rows.specs.Places.{lent_row};
 
-use crate::block::ROWS;
+use crate::block::{Block, ROWS};
 use crate::part::Part;
 use crate::place::Lent;
 use crate::taken::Taken;
@@ -150,6 +150,15 @@ impl Blocks {
         ensures prepared { self.new.prepared ≡ self.old.prepared }
     {
         self.parts[number as usize / ROWS].put(number as usize % ROWS, prefix, attrs);
+    }
+
+    /// A block that others may have too stands for the rows of its place.
+    pub fn put_block(&mut self, place: u32, block: Arc<Block>)
+        requires { place * 16 + 15 < length self.old.items }
+        ensures rows { self.new.items ≡ written_from (place * 16) (arc_value block).rows.items self.old.items }
+        ensures kept { (n : ℕ) → n / 16 ≢ place → IsPrepared self.old.prepared n → IsPrepared self.new.prepared n }
+    {
+        self.parts[place as usize] = Part::Shared(block);
     }
 
     /// Where another client has the rows of a block that was prepared, its block takes this one's place.

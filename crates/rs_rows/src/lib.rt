@@ -20,7 +20,7 @@ mod part;
 mod place;
 mod taken;
 
-pub use block::{Block, MOST_OF_BLOCK};
+pub use block::{Block, MOST_OF_BLOCK, ROWS};
 pub use blocks::{Blocks, lie_together};
 pub use place::Lent;
 pub use taken::Taken;

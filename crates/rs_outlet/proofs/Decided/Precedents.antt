@@ -1,8 +1,6 @@
 -- What was decided for a client that held none of the prefixes is decided for another one that is judged alike and holds none either.
-use Rattle.std.proofs.Common.{◌≡◌, ◌<◌, ◌+◌, ◌≤◌, ◌∙◌, ℕ, zero, suc, Bool, true, false, ◌||◌, nat_eq, List, [], ◌∷◌, Option, Some, None, length, map, option_map, refl, sym, ap, subst, arith}
-use mathlib.Core.Bool.{true≢false}
+use Rattle.std.proofs.Common.{◌≡◌, ◌<◌, ◌+◌, ◌≤◌, ◌∙◌, ℕ, zero, suc, Bool, true, ◌||◌, nat_eq, List, [], ◌∷◌, Option, Some, None, length, map, option_map, refl, sym, ap, subst, arith}
 use Rattle.std.specs.Prelude.{option_and_then}
-use Rattle.std.specs.Arc.{arc_value}
 use Rattle.std.specs.List.{AllByRecursion, IsDistinct, list_any}
 use Rattle.std.proofs.lemmas.Bool.Decides.{nat_tests}
 use Rattle.std.proofs.lemmas.Bool.{or_right}
@@ -20,7 +18,7 @@ use Rattle.rs_outlet.specs.declared.changes.Change.{Change}
 use Rattle.rs_outlet.specs.Inside.{AreDecided, AreDue, AreOwn, ArePlaced, IsOwn, numbers_of, shown}
 use Rattle.rs_outlet.specs.Decided.Choices.{AreJudgedAlike}
 use Rattle.rs_outlet.specs.Decided.Due.{Held, due_to, holders_at, if_fits, passed_on, ranks_among, route_from}
-use Rattle.rs_outlet.specs.Decided.Precedents.{seen}
+use Rattle.rs_outlet.specs.Decided.News.{seen}
 use Rattle.rs_outlet.proofs.Decided.Shared.{known_choice, ranks_alike}
 
 -- ---- what is due to both

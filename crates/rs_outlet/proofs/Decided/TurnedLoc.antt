@@ -36,7 +36,7 @@ change_done due_at x rest q new mid false s is due = ap (cond (is_changed rest q
 -- ---- all of them
 
 module _ (ins : AdjIns) where
-  changed_numbered : (cs : List Change) (p : Prefix) (n : ℕ) → ArePlaced cs ins → number_of ins p ≡ Some n → is_changed cs p ≡ list_any (nat_eq n) (numbers_of cs)
+  pub changed_numbered : (cs : List Change) (p : Prefix) (n : ℕ) → ArePlaced cs ins → number_of ins p ≡ Some n → is_changed cs p ≡ list_any (nat_eq n) (numbers_of cs)
   changed_numbered [] p n h at = refl
   changed_numbered (c ∷ cs) p n h at = λ i. (prefix_eq-cmp p c.prefix ∙ eq_numbers ins p c.prefix n c.number at h.0) i || changed_numbered cs p n h.1 at i
 

@@ -146,8 +146,26 @@ fn clients_share_what_rules_left(rt: HostRuntime) {
     let_go(exchange, first);
 }
 
-/// What was decided at touched prefixes for one client serves the next one, but not one to which other rules apply: each set
-/// that is left has an owner more for each of its prefixes and each client that is due it.
+/// The turns of three outlets, all touched at so many prefixes, of which one turn hands over to the next.
+fn turn_three(
+    rt: &impl Abort,
+    exchange: &Exchange,
+    count: u32,
+    first: &mut Outlet,
+    alike: &mut Outlet,
+    other: &mut Outlet,
+) {
+    exchange.touch(rt, first, 0..count, 1);
+    exchange.touch(rt, alike, 0..count, 1);
+    exchange.touch(rt, other, 0..count, 1);
+    let mut handover = exchange.handover();
+    turn_by(rt, exchange, first, &mut handover);
+    turn_by(rt, exchange, alike, &mut handover);
+    turn_by(rt, exchange, other, &mut handover);
+}
+
+/// What was decided at touched prefixes for one client serves the next one, which has the very same blocks of rows, but not one
+/// to which other rules apply: each set that is left has an owner for each of its two prefixes, in these blocks or the other's.
 #[test]
 fn what_was_decided_serves_those_alike(rt: HostRuntime) {
     let mut exchange = Exchange::of(&rt, rt.alloc(), STRIPPED);
@@ -155,15 +173,28 @@ fn what_was_decided_serves_those_alike(rt: HostRuntime) {
     let mut alike = waiting(&rt, &exchange, CLIENT + 1);
     let mut other = waiting(&rt, &exchange, CLIENT + 2);
     announce(&rt, &mut exchange, SETS, 2, false);
-    let mut handover = exchange.handover();
     let count = u32::from(SETS) * 2;
-    exchange.touch(&rt, &mut first, 0..count, 1);
-    exchange.touch(&rt, &mut alike, 0..count, 1);
-    exchange.touch(&rt, &mut other, 0..count, 1);
-    turn_by(&rt, &exchange, &mut first, &mut handover);
-    turn_by(&rt, &exchange, &mut alike, &mut handover);
-    turn_by(&rt, &exchange, &mut other, &mut handover);
-    drop(handover);
+    turn_three(&rt, &exchange, count, &mut first, &mut alike, &mut other);
+    have_owners(&rt, &exchange, &first, SETS, 2);
+    have_owners(&rt, &exchange, &alike, SETS, 2);
+    have_owners(&rt, &exchange, &other, SETS, 2);
+    let_go(exchange, first);
+}
+
+/// A client to which something waits to be sent has what was decided for another in rows of its own: each set has two owners more.
+#[test]
+fn what_was_decided_serves_one_that_has_not_been_told_all(rt: HostRuntime) {
+    let mut exchange = Exchange::of(&rt, rt.alloc(), STRIPPED);
+    let mut first = waiting(&rt, &exchange, CLIENT);
+    let mut alike = waiting(&rt, &exchange, CLIENT + 1);
+    let mut other = waiting(&rt, &exchange, CLIENT + 2);
+    announce(&rt, &mut exchange, SETS, 2, false);
+    let count = u32::from(SETS) * 2;
+    let set = attrs(&rt, exchange.alloc, 200, 2);
+    exchange.announce(&rt, count, &set);
+    exchange.touch(&rt, &mut alike, count..count + 1, 1);
+    exchange.decides(&rt, &mut alike, some(1));
+    turn_three(&rt, &exchange, count, &mut first, &mut alike, &mut other);
     have_owners(&rt, &exchange, &first, SETS, 4);
     have_owners(&rt, &exchange, &alike, SETS, 4);
     have_owners(&rt, &exchange, &other, SETS, 2);

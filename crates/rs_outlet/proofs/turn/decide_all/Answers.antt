@@ -50,7 +50,10 @@ returns c =
     let rows = c.args.rows.now.rows.items in
     let below : (p : Prefix) (n : ℕ) → number_of ins p ≡ Some n → n < c.loop-number.number = λ p n at. let low = c.numbers.ensures p n at in omega (arith, low) in
     record {
-      changes = all_decided ins (due_to (held_by c.args.sources.now) c.args.sources.now.client c.args.speech) rows c.loop-number.number c.loop-number.changes.items c.loop-number.invariant.changes below;
+      plan = λ idle. record {
+        decided = all_decided ins (due_to (held_by c.args.sources.now) c.args.sources.now.client c.args.speech) rows c.loop-number.number c.loop-number.changes.items c.loop-number.invariant.changes below;
+        fitting = tt;
+      };
       count = all_counted ins rows (any_holds (held_by c.args.sources.now)) c.loop-number.number c.loop-number.count below c.loop-number.invariant.count;
       whole = refl;
       choices = subst (λ (left : Choices). AreChoices (held_by c.args.sources.now) ins left.kept.items) (sym c.into_choices.ensures) c.loop-number.invariant.choices;

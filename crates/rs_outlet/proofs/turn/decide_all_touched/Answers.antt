@@ -1,6 +1,9 @@
 use Rattle.std.proofs.Common.{◌≡◌, ◌∙◌, ap, length, subst, sym, ℕ, List, false, nat_lt, Option, Some, Result, Ok, Err, IfOk}
 use Rattle.std.specs.Prelude.{IfSome, is_none}
 use Rattle.rs_octets.specs.Prefixes.{Prefix}
+use Rattle.rs_outlet.specs.Decided.Due.{due_to}
+use Rattle.rs_outlet.specs.Decided.HeldBy.{held_by}
+use Rattle.rs_outlet.specs.Decided.Plans.{IsPlanned}
 use Rattle.rs_outlet.specs.Decided.Touching.{AreOnce, is_number_touched, is_numbered_in, touched_of}
 use Rattle.rs_outlet.specs.Views.{HaveNumbers, is_whole}
 use Rattle.rs_outlet.proofs.turn.decide_all_touched.Goals as goal
@@ -39,3 +42,9 @@ returns-in-Some-clause-all c = λ are fresh.
     let part : c.args.touched.now.all ≡ false = sym c.in_ok-list.ensures.all ∙ ap is_none c.in-Some.is in
     c.decide_stale.ensures.all (subst (λ xs. HaveNumbers xs ins) (sym c.deref.ensures.value) (once.numbered ins are))
     (λ p n at out. fresh p n at (ap (λ b. is_number_touched b es n) part ∙ sym (once.same n) ∙ sym (ap (λ xs. is_numbered_in xs n) c.deref.ensures.value) ∙ out))
+
+pub returns-in-None-clause-plan : goal.returns-in-None-clause-plan
+returns-in-None-clause-plan c =
+    let s = c.args.sources.now in
+    subst (λ b. IfOk c.decide_all.result (λ decided. IsPlanned s.ins.now (due_to (held_by s) s.client c.args.speech) c.args.rows.now.rows.items (is_number_touched b c.args.touched.now.prefixes.items) c.args.idle decided.plan))
+    (sym (sym c.in_ok-list.ensures.all ∙ ap is_none c.in-None.is)) (c.decide_all.ensures.plan c.args.idle)

@@ -1,6 +1,5 @@
-use Rattle.std.proofs.Common.{◌≡◌, ◌∙◌, cond, ap, arith, ℕ, List, [], false, length, Option, Some, sym, subst, take}
+use Rattle.std.proofs.Common.{◌≡◌, ◌∙◌, cond, ap, arith, ℕ, nat_eq, List, [], false, Option, Some, sym, subst, take}
 use Rattle.std.proofs.lemmas.Bool.{and_parts}
-use Rattle.std.proofs.lemmas.Bool.Decides.{nat_tests}
 use Rattle.std.specs.FinMap as fin
 use Rattle.rs_outlet.specs.Decided.Due.{any_holds, due_to}
 use Rattle.rs_outlet.specs.Decided.HeldBy.{held_by}
@@ -15,17 +14,19 @@ use Rattle.rs_rows.specs.Rows.{Row}
 use Rattle.rs_outlet.specs.declared.table.Rows.{Rows}
 use Rattle.rs_outlet.specs.declared.waiting.Wait.{Wait}
 use Rattle.rs_outlet.specs.declared.waiting.Waits.{Waits}
-use Rattle.rs_outlet.specs.Pending.Slots.{open_at, withdrawn_count}
+use Rattle.rs_outlet.specs.Pending.Slots.{open_at, open_count, withdrawn_count}
+use Rattle.rs_outlet.proofs.Pending.Pieces.{fitting_same}
 use Rattle.rs_outlet.specs.Pending.Owed.{Keeps}
 use Rattle.rs_outlet.specs.Views.{View, AreNumbered, IsCount, HaveNumbers, WaitsAreExact, is_touched, is_whole}
 use Rattle.rs_outlet.proofs.Pending.Backing.{are_backed_same, changes_fit, fit_same, fit_spoken, own_same}
-use Rattle.rs_outlet.specs.Inside.{AreBelow, HaveRows, numbers_from, loc_of, is_changed, view_of}
+use Rattle.rs_outlet.specs.Inside.{numbers_from, loc_of, is_changed, view_of}
 use Rattle.rs_outlet.specs.Decided.Touching.{stale_of, touched_of}
+use Rattle.rs_outlet.specs.Decided.Plans.{changes_of}
 use Rattle.rs_outlet.specs.Decided.Turns.{IsCurrent}
 use Rattle.rs_outlet.specs.Decided.HeldBy.{tables_of}
 use Rattle.rs_outlet.specs.declared.answers.Speech.{Speech}
 use Rattle.rs_policy.specs.Configuration.{Configuration}
-use Rattle.rs_outlet.proofs.Decided.Numbering.{all_both, are_below, no_elements, rows_numbered, touched_numbered}
+use Rattle.rs_outlet.proofs.Decided.Numbering.{all_both, are_below, rows_numbered, touched_numbered}
 use Rattle.rs_outlet.proofs.Pending.Carrying.{distinct_prefixes, keeps_both, keeps_same}
 use Rattle.rs_outlet.proofs.Pending.Unchanged.{asked_same, told_kept, marked_kept, exact_kept}
 use Rattle.rs_outlet.proofs.Pending.Chains.{same_chained}
@@ -36,25 +37,24 @@ use Rattle.rs_outlet.proofs.Decided.TurnedLoc.{fresh_rows, one_of, stale_at, tur
 use Rattle.rs_outlet.proofs.outlet.Outlet.turn_up.Goals as goal
 
 pub make_room-requires : goal.make_room-requires
-make_room-requires c =
-    let changes = c.in_ok-changes.field-0.changes in
-    subst (λ cs. AreBelow cs c.numbers-numbers.result) (sym c.deref.ensures.value)
-    (are_below changes.items c.args.sources.now.ins.now c.numbers-numbers.result c.numbers-numbers.ensures c.in_ok-changes.ensures.changes.placed)
+make_room-requires c = are_below (changes_of c.in_ok-plan.field-0.plan) c.args.sources.now.ins.now c.numbers-numbers.result c.numbers-numbers.ensures c.in_ok-plan.ensures.plan.decided.placed
 
-pub commit-requires-clause-rows : goal.commit-requires-clause-rows
-commit-requires-clause-rows c = subst (λ cs. HaveRows cs c.make_room.new.rows.rows) c.deref.ensures.value c.in_ok-fresh.ensures.room
+pub carry_out-requires-clause-fitting : goal.carry_out-requires-clause-fitting
+carry_out-requires-clause-fitting c =
+    fitting_same c.in_ok-plan.field-0.plan c.self.inside.rows.rows.items c.make_room.new.rows.rows.items _ _ c.make_room.ensures.rows
+    (ap (λ ws. nat_eq (open_count ws) 0) c.make_room.ensures.waits ∙ sym c.is_idle-idle.ensures) c.in_ok-plan.ensures.plan.fitting
 
-pub commit-requires-clause-once : goal.commit-requires-clause-once
-commit-requires-clause-once c =
-    let decided = c.in_ok-changes.ensures.changes in
-    distinct_prefixes c.args.sources.now.ins.now c.in_ok-changes.field-0.changes.items decided.placed decided.once
+pub carry_out-requires-clause-once : goal.carry_out-requires-clause-once
+carry_out-requires-clause-once c =
+    let decided = c.in_ok-plan.ensures.plan.decided in
+    distinct_prefixes c.args.sources.now.ins.now (changes_of c.in_ok-plan.field-0.plan) decided.placed decided.once
 
 pub returns-clause-numbered : goal.returns-clause-numbered
 returns-clause-numbered c = λ are.
     let ins = c.args.sources.now.ins.now in
     let P = λ (e : ℕ × Prefix). number_of ins e.1 ≡ Some e.0 in
-    all_both P (numbers_from 0 c.commit.new.rows.rows.items) _
-    (c.commit.ensures.numbered ins c.in_ok-changes.ensures.changes.placed (subst (λ es. HaveNumbers es ins) (sym c.make_room.ensures.numbers) (rows_numbered ins c.self.inside c.args.self.now c.self.view_is are)))
+    all_both P (numbers_from 0 c.carry_out.new.rows.rows.items) _
+    (c.carry_out.ensures.numbered ins c.in_ok-plan.ensures.plan.decided.placed (subst (λ es. HaveNumbers es ins) (sym c.make_room.ensures.numbers) (rows_numbered ins c.self.inside c.args.self.now c.self.view_is are)))
     (subst (AllByRecursion P) (sym c.clear.ensures.prefixes) tt)
 
 -- what is not stale is due
@@ -79,10 +79,10 @@ returns-clause-due c = λ are p.
     let a = c.self.inside in
     let due_at = due_to (held_by c.args.sources.now) c.args.sources.now.client c.args.speech in
     one_of (is_touched (stale_of a.touched.all a.touched.prefixes.items) p) _ _ _
-    (stale_at ins a.rows.rows.items a.touched.prefixes.items a.touched.all due_at c.in_ok-changes.field-0.changes.items
-    (rows_numbered ins a c.args.self.now c.self.view_is are) (touched_numbered ins a c.args.self.now c.self.view_is are) c.in_ok-changes.ensures.changes
+    (stale_at ins a.rows.rows.items a.touched.prefixes.items a.touched.all due_at (changes_of c.in_ok-plan.field-0.plan)
+    (rows_numbered ins a c.args.self.now c.self.view_is are) (touched_numbered ins a c.args.self.now c.self.view_is are) c.in_ok-plan.ensures.plan.decided
     (due_unnumbered c.args.sources.now.config.now ins c.args.sources.now.client c.args.speech)
-    p _ (changed ins a c.args.self.now due_at c.in_ok-changes.field-0.changes.items c.make_room.new.rows.rows.items c.commit.new.rows.rows.items c.self.view_is c.make_room.ensures.numbers c.make_room.ensures.loc (c.commit.ensures.loc ins due_at c.in_ok-changes.ensures.changes.placed c.in_ok-changes.ensures.changes.due) are p)
+    p _ (changed ins a c.args.self.now due_at (changes_of c.in_ok-plan.field-0.plan) c.make_room.new.rows.rows.items c.carry_out.new.rows.rows.items c.self.view_is c.make_room.ensures.numbers c.make_room.ensures.loc (c.carry_out.ensures.loc ins due_at c.in_ok-plan.ensures.plan.decided.placed c.in_ok-plan.ensures.plan.decided.due) are p)
     ∙ ap (λ (v : View). cond (is_touched (stale_of a.touched.all a.touched.prefixes.items) p) (due_at p) (fin.get v.loc p)) c.self.view_is)
 
 pub returns-clause-loc : goal.returns-clause-loc
@@ -91,11 +91,11 @@ returns-clause-loc c = λ are current p.
     let ins = c.args.sources.now.ins.now in
     let a = c.self.inside in
     let due_at = due_to (held_by c.args.sources.now) c.args.sources.now.client c.args.speech in
-    turned_at ins a.rows.rows.items a.touched.prefixes.items a.touched.all due_at c.in_ok-changes.field-0.changes.items
-    (rows_numbered ins a c.args.self.now c.self.view_is are) (touched_numbered ins a c.args.self.now c.self.view_is are) c.in_ok-changes.ensures.changes
+    turned_at ins a.rows.rows.items a.touched.prefixes.items a.touched.all due_at (changes_of c.in_ok-plan.field-0.plan)
+    (rows_numbered ins a c.args.self.now c.self.view_is are) (touched_numbered ins a c.args.self.now c.self.view_is are) c.in_ok-plan.ensures.plan.decided
     (due_unnumbered config ins c.args.sources.now.client c.args.speech)
     (as_due config ins a c.args.self.now c.args.speech c.args.sources.now.client c.self.view_is c.requires.speech c.requires.own current)
-    p _ (changed ins a c.args.self.now due_at c.in_ok-changes.field-0.changes.items c.make_room.new.rows.rows.items c.commit.new.rows.rows.items c.self.view_is c.make_room.ensures.numbers c.make_room.ensures.loc (c.commit.ensures.loc ins due_at c.in_ok-changes.ensures.changes.placed c.in_ok-changes.ensures.changes.due) are p)
+    p _ (changed ins a c.args.self.now due_at (changes_of c.in_ok-plan.field-0.plan) c.make_room.new.rows.rows.items c.carry_out.new.rows.rows.items c.self.view_is c.make_room.ensures.numbers c.make_room.ensures.loc (c.carry_out.ensures.loc ins due_at c.in_ok-plan.ensures.plan.decided.placed c.in_ok-plan.ensures.plan.decided.due) are p)
     ∙ ap (λ (v : View). cond (is_touched v.touched p) (due_at p) (fin.get v.loc p)) c.self.view_is
 
 pub returns-clause-count : goal.returns-clause-count
@@ -106,20 +106,20 @@ returns-clause-count c = λ are current.
     let rows = a.rows.rows.items in
     let es = a.touched.prefixes.items in
     let held = any_holds (held_by c.args.sources.now) in
-    let count = c.in_ok-changes.field-0.count in
+    let count = c.in_ok-plan.field-0.count in
     let due_at = due_to (held_by c.args.sources.now) c.args.sources.now.client c.args.speech in
     let stand = rows_numbered ins a c.args.self.now c.self.view_is are in
     let there = touched_numbered ins a c.args.self.now c.self.view_is are in
     subst (λ (v : View). IsCount held v.loc v.touched count) c.self.view_is
     (count_touched held (loc_of rows) (touched_of a.touched.all es) count
     (λ all. counted_by_prefix ins rows held count (numbered ins rows stand) (none_holds config ins)
-    (c.in_ok-changes.ensures.all there (fresh_rows ins rows es a.touched.all due_at [] stand there
-    (as_due config ins a c.args.self.now c.args.speech c.args.sources.now.client c.self.view_is c.requires.speech c.requires.own current)) (c.in_ok-changes.ensures.whole there ∙ all)))
-    (c.in_ok-changes.ensures.count there))
+    (c.in_ok-plan.ensures.all there (fresh_rows ins rows es a.touched.all due_at [] stand there
+    (as_due config ins a c.args.self.now c.args.speech c.args.sources.now.client c.self.view_is c.requires.speech c.requires.own current)) (c.in_ok-plan.ensures.whole there ∙ all)))
+    (c.in_ok-plan.ensures.count there))
 
 pub returns-clause-whole : goal.returns-clause-whole
 returns-clause-whole c = λ are.
-    c.in_ok-changes.ensures.whole (touched_numbered c.args.sources.now.ins.now c.self.inside c.args.self.now c.self.view_is are) ∙ ap (λ (v : View). is_whole v.touched) c.self.view_is
+    c.in_ok-plan.ensures.whole (touched_numbered c.args.sources.now.ins.now c.self.inside c.args.self.now c.self.view_is are) ∙ ap (λ (v : View). is_whole v.touched) c.self.view_is
 
 -- what each prefix keeps, from before room is made until the changes are carried out
 keeps : (ins : AdjIns) (a : Inside) (v : View) (rows1 rows2 : List (Option Row)) (ws1 ws2 : List Wait) → view_of a ≡ v → numbers_from 0 rows1 ≡ numbers_from 0 a.rows.rows.items → loc_of rows1 ≡ loc_of a.rows.rows.items → ws1 ≡ a.waits.slots.items
@@ -133,29 +133,29 @@ pub returns-clause-told : goal.returns-clause-told
 returns-clause-told c = λ are.
     let ins = c.args.sources.now.ins.now in
     let a = c.self.inside in
-    told_kept (loc_of a.rows.rows.items) (loc_of c.commit.new.rows.rows.items) a.waits.slots.items c.commit.new.waits.slots.items
-    (keeps ins a c.args.self.now c.make_room.new.rows.rows.items c.commit.new.rows.rows.items c.make_room.new.waits.slots.items c.commit.new.waits.slots.items c.self.view_is c.make_room.ensures.numbers c.make_room.ensures.loc c.make_room.ensures.waits (c.commit.ensures.keeps ins c.in_ok-changes.ensures.changes.placed) are)
+    told_kept (loc_of a.rows.rows.items) (loc_of c.carry_out.new.rows.rows.items) a.waits.slots.items c.carry_out.new.waits.slots.items
+    (keeps ins a c.args.self.now c.make_room.new.rows.rows.items c.carry_out.new.rows.rows.items c.make_room.new.waits.slots.items c.carry_out.new.waits.slots.items c.self.view_is c.make_room.ensures.numbers c.make_room.ensures.loc c.make_room.ensures.waits (c.carry_out.ensures.keeps ins c.in_ok-plan.ensures.plan.decided.placed) are)
     ∙ ap (λ (v : View). v.told) c.self.view_is
 
 pub returns-clause-marked : goal.returns-clause-marked
 returns-clause-marked c = λ are.
     let ins = c.args.sources.now.ins.now in
     let a = c.self.inside in
-    marked_kept (loc_of a.rows.rows.items) (loc_of c.commit.new.rows.rows.items) a.waits.slots.items c.commit.new.waits.slots.items
-    (keeps ins a c.args.self.now c.make_room.new.rows.rows.items c.commit.new.rows.rows.items c.make_room.new.waits.slots.items c.commit.new.waits.slots.items c.self.view_is c.make_room.ensures.numbers c.make_room.ensures.loc c.make_room.ensures.waits (c.commit.ensures.keeps ins c.in_ok-changes.ensures.changes.placed) are)
+    marked_kept (loc_of a.rows.rows.items) (loc_of c.carry_out.new.rows.rows.items) a.waits.slots.items c.carry_out.new.waits.slots.items
+    (keeps ins a c.args.self.now c.make_room.new.rows.rows.items c.carry_out.new.rows.rows.items c.make_room.new.waits.slots.items c.carry_out.new.waits.slots.items c.self.view_is c.make_room.ensures.numbers c.make_room.ensures.loc c.make_room.ensures.waits (c.carry_out.ensures.keeps ins c.in_ok-plan.ensures.plan.decided.placed) are)
     ∙ ap (λ (v : View). v.marked) c.self.view_is
 
 pub returns-clause-exact : goal.returns-clause-exact
 returns-clause-exact c = λ are exact.
     let ins = c.args.sources.now.ins.now in
     let a = c.self.inside in
-    exact_kept (loc_of a.rows.rows.items) (loc_of c.commit.new.rows.rows.items) a.waits.slots.items c.commit.new.waits.slots.items
-    (keeps ins a c.args.self.now c.make_room.new.rows.rows.items c.commit.new.rows.rows.items c.make_room.new.waits.slots.items c.commit.new.waits.slots.items c.self.view_is c.make_room.ensures.numbers c.make_room.ensures.loc c.make_room.ensures.waits (c.commit.ensures.keeps ins c.in_ok-changes.ensures.changes.placed) are)
+    exact_kept (loc_of a.rows.rows.items) (loc_of c.carry_out.new.rows.rows.items) a.waits.slots.items c.carry_out.new.waits.slots.items
+    (keeps ins a c.args.self.now c.make_room.new.rows.rows.items c.carry_out.new.rows.rows.items c.make_room.new.waits.slots.items c.carry_out.new.waits.slots.items c.self.view_is c.make_room.ensures.numbers c.make_room.ensures.loc c.make_room.ensures.waits (c.carry_out.ensures.keeps ins c.in_ok-plan.ensures.plan.decided.placed) are)
     (subst WaitsAreExact (sym c.self.view_is) exact)
 
-pub commit-requires-clause-own : goal.commit-requires-clause-own
-commit-requires-clause-own c =
-    own_same c.in_ok-changes.field-0.changes.items c.self.inside.rows.rows.items c.make_room.new.rows.rows.items c.make_room.ensures.rows c.in_ok-changes.ensures.changes.own
+pub carry_out-requires-clause-own : goal.carry_out-requires-clause-own
+carry_out-requires-clause-own c =
+    own_same (changes_of c.in_ok-plan.field-0.plan) c.self.inside.rows.rows.items c.make_room.new.rows.rows.items c.make_room.ensures.rows c.in_ok-plan.ensures.plan.decided.own
 
 pub invariant_of-self : goal.invariant_of-self
 invariant_of-self c =
@@ -188,20 +188,18 @@ invariant_of-self-2 c =
       ended = kept.ended;
       front = kept.front;
       chosen = kept.chosen;
-      slots = c.commit.ensures.all;
+      slots = c.carry_out.ensures.all;
       extended = kept.extended;
-      backed = c.commit.ensures.backed (are_backed_same a.rows.rows.items c.make_room.new.rows.rows.items a.waits.slots.items c.make_room.new.waits.slots.items c.make_room.ensures.rows c.make_room.ensures.waits kept.backed);
-      chained = c.commit.ensures.chained (are_backed_same a.rows.rows.items c.make_room.new.rows.rows.items a.waits.slots.items c.make_room.new.waits.slots.items c.make_room.ensures.rows c.make_room.ensures.waits kept.backed)
+      backed = c.carry_out.ensures.backed (are_backed_same a.rows.rows.items c.make_room.new.rows.rows.items a.waits.slots.items c.make_room.new.waits.slots.items c.make_room.ensures.rows c.make_room.ensures.waits kept.backed);
+      chained = c.carry_out.ensures.chained (are_backed_same a.rows.rows.items c.make_room.new.rows.rows.items a.waits.slots.items c.make_room.new.waits.slots.items c.make_room.ensures.rows c.make_room.ensures.waits kept.backed)
           (same_chained a.rows.rows.items c.make_room.new.rows.rows.items (take a.waits.sorted a.waits.slots.items) (take c.make_room.new.waits.sorted c.make_room.new.waits.slots.items) a.waits.chains.items _ c.make_room.ensures.rows (λ i. take (c.make_room.ensures.sorted i) (c.make_room.ensures.waits i)) c.make_room.ensures.chains kept.chained);
-      fit = fit_spoken c.commit.new.rows.rows.items a.speech c.args.speech is
-          (c.commit.ensures.fit c.args.speech
-          (changes_fit (held_by c.args.sources.now) c.args.sources.now.client c.args.speech c.in_ok-changes.field-0.changes.items c.in_ok-changes.ensures.changes.due)
+      fit = fit_spoken c.carry_out.new.rows.rows.items a.speech c.args.speech is
+          (c.carry_out.ensures.fit c.args.speech
+          (changes_fit (held_by c.args.sources.now) c.args.sources.now.client c.args.speech (changes_of c.in_ok-plan.field-0.plan) c.in_ok-plan.ensures.plan.decided.due)
           (fit_same c.args.speech a.rows.rows.items c.make_room.new.rows.rows.items c.make_room.ensures.rows (kept.fit c.args.speech is)));
       asked = λ is.
           let both = and_parts a.asked _ is in
-          let changes = c.in_ok-changes.field-0.changes in
-          let count : length changes.items ≡ 0 = grind (arith, nat_tests, c.is_empty.ensures, both.1, changes.ok) in
-          let none = c.commit.ensures.none (sym (no_elements changes.items count)) in
-          asked_same (loc_of a.rows.rows.items) (loc_of c.commit.new.rows.rows.items) a.waits.slots.items c.commit.new.waits.slots.items
+          let none = c.carry_out.ensures.none (sym c.is_empty.ensures ∙ both.1) in
+          asked_same (loc_of a.rows.rows.items) (loc_of c.carry_out.new.rows.rows.items) a.waits.slots.items c.carry_out.new.waits.slots.items
           (ap (λ (r : Rows). loc_of r.rows.items) none.0 ∙ c.make_room.ensures.loc) (ap (λ (w : Waits). w.slots.items) none.1 ∙ c.make_room.ensures.waits) (kept.asked both.0);
     }

@@ -1,9 +1,14 @@
-use Rattle.std.proofs.Common.{ℕ, ◌≡◌, ◌∙◌, [], ap, refl, sym}
+use Rattle.std.proofs.Common.{ℕ, ◌≡◌, ◌∙◌, [], Option, Some, ap, refl, subst, sym}
+use Rattle.std.specs.Prelude.{IfSome}
 use Rattle.rs_outlet.specs.Decided.Due.{due_to}
 use Rattle.rs_outlet.specs.Decided.HeldBy.{held_by}
+use Rattle.rs_outlet.specs.Decided.Plans.{changes_in}
 use Rattle.rs_outlet.specs.Decided.Touching.{is_numbered_in}
 use Rattle.rs_outlet.proofs.Decided.Precedents.{decided_alike}
 use Rattle.rs_outlet.proofs.precedent.Precedent.of.Goals as goal
+
+if_some_at : {A : Type 0} (Q : A → Type 0) (o : Option A) (x : A) → o ≡ Some x → IfSome o Q → Q x
+if_some_at Q o x is h = subst (λ o. IfSome o Q) is h
 
 pub returns : goal.returns
 returns c =
@@ -13,8 +18,8 @@ returns c =
     let same = λ (n : ℕ). ap (λ es. is_numbered_in es n) touched in
     record {
       known = c.requires.client;
-      new = record { free = λ n there. refl; absent = λ n there. new.absent n (sym (same n) ∙ there) };
+      absent = λ n there. new.absent n (sym (same n) ∙ there);
       decided =
           decided_alike s.ins.now (due_to (held_by s) s.client c.args.speech) (due_to (held_by s) s.client c.args.speech) c.args.rows.now.rows.items [] (is_numbered_in c.args.touched.now) (is_numbered_in c.in_ok-to_vec.field-0.items)
-          new.free (λ n there. refl) (λ n there p at. refl) same c.args.changes.now c.in_ok-copied.field-0.items c.in_ok-copied.ensures c.requires.decided;
+          new.free (λ n there. refl) (λ n there p at. refl) same c.args.changes.now (changes_in c.in-Some.pieces.items) (if_some_at _ c.in_ok-pieces.field-0 c.in-Some.pieces c.in-Some.is c.in_ok-pieces.ensures) c.requires.decided;
     }

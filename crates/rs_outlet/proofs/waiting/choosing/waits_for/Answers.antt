@@ -1,4 +1,4 @@
-use Rattle.std.proofs.Common.{arith, sym, true}
+use Rattle.std.proofs.Common.{arith, sym}
 use Rattle.std.proofs.lemmas.Bool.{and_parts}
 use Rattle.rs_outlet.specs.Inside.{row_by, shown}
 use Rattle.rs_outlet.specs.Message.Next.{has_attributes}

@@ -1,7 +1,7 @@
 use Rattle.std.proofs.Common.{ap, arith}
 use Rattle.rs_outlet.specs.Pending.Slots.{withdrawn_count}
 use Rattle.rs_outlet.proofs.Pending.Withdrawals.{withdrawn_open}
-use Rattle.rs_outlet.proofs.changes.make_room.Goals as goal
+use Rattle.rs_outlet.proofs.plan.Plan.make_room.Goals as goal
 
 pub returns-clause-all : goal.returns-clause-all
 returns-clause-all c =

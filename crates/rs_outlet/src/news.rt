@@ -1,0 +1,73 @@
+//! News: a route that is due to a client where nothing was due or told.
+
+ghost use Rattle.std.specs.Prelude.{◌≡◌, IfOk, IfSome};
+ghost use Rattle.rs_outlet.specs.Decided.News.{change_of, seen, slot_of};
+
+use crate::changes::Change;
+use crate::waiting::{Due, Told, Wait};
+use rs_attrs::Attrs;
+use rs_octets::Prefix;
+use std::alloc::AllocError;
+use std::sync::Arc;
+
+/// A route that is due where nothing was due or told.
+#[derive(Drop)]
+pub(crate) struct News {
+    pub(crate) number: u32,
+    pub(crate) prefix: Prefix,
+    pub(crate) attrs: Arc<Attrs>,
+}
+
+impl News {
+    /// The same once more, which shares the attributes.
+    pub(crate) fn copy(&self) -> Result<News, AllocError>
+        ensures { IfOk result (λ copy. seen (change_of copy) ≡ seen (change_of self.now)) }
+    {
+        Ok(News {
+            number: self.number,
+            prefix: self.prefix,
+            attrs: self.attrs.clone()?,
+        })
+    }
+
+    /// The news that a change is, where something is due.
+    pub(crate) fn of(change: &Change) -> Result<Option<News>, AllocError>
+        ensures { IfOk result (λ made. IfSome made (λ news. seen (change_of news) ≡ seen change.now)) }
+    {
+        match &change.due {
+            None => Ok(None),
+            Some(attrs) => Ok(Some(News {
+                number: change.number,
+                prefix: change.prefix,
+                attrs: attrs.clone()?,
+            })),
+        }
+    }
+
+    /// The change that they are.
+    pub(crate) fn change(&self) -> Result<Change, AllocError>
+        ensures { IfOk result (λ change. seen change ≡ seen (change_of self.now)) }
+    {
+        Ok(Change {
+            number: self.number,
+            prefix: self.prefix,
+            due: Some(self.attrs.clone()?),
+        })
+    }
+
+    /// The slot where they wait.
+    pub(crate) fn slot(&self) -> Wait
+        ensures { result ≡ slot_of self.now }
+    {
+        Wait {
+            prefix: self.prefix,
+            due: Due::Announced {
+                number: self.number,
+                hash: self.attrs.kept_hash(),
+            },
+            marked: false,
+            open: true,
+            told: Told::Nothing,
+        }
+    }
+}

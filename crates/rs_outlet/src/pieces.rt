@@ -1,0 +1,266 @@
+//! What is news to several clients, in pieces: one by one, or all of a block of rows.
+
+ghost use Rattle.std.specs.Prelude.{◌≡◌, ◌≢◌, ◌<◌, ◌≤◌, ◌+◌, ◌*◌, ◌/◌, ◌++◌, ℕ, [], List, Option, Some, true, nat_eq, map, length, take, vec_len, if◌then◌else◌, IfOk, IfSome, OnOk};
+ghost use Rattle.std.specs.FinMap as fin;
+ghost use Rattle.std.specs.Ordering.{eq_by_cmp};
+ghost use Rattle.rs_octets.specs.Prefixes.{Prefix, prefix_order};
+ghost use Rattle.rs_attrs.specs.Meaning.{Attribute};
+ghost use Rattle.rs_adjin.specs.declared.adj_ins.AdjIns.{AdjIns};
+ghost use Rattle.rs_outlet.specs.Views.{HaveNumbers};
+ghost use Rattle.rs_outlet.specs.declared.answers.Speech.{Speech};
+ghost use Rattle.rs_outlet.specs.Pending.Owed.{Keeps, prefixes_of};
+ghost use Rattle.rs_outlet.specs.Pending.Slots.{open_at, open_count, withdrawn_count};
+ghost use Rattle.std.specs.Arc.{arc_value};
+ghost use Rattle.std.specs.List.{AllByRecursion, IsDistinct};
+ghost use Rattle.std.specs.Vec.{vec_capacity};
+ghost use Rattle.rs_rows.specs.Rows.{IsPrepared};
+ghost use Rattle.rs_outlet.specs.Inside.{AreBacked, AreBelow, AreChained, AreDue, ArePlaced, ChangesFit, RowsFit, is_changed, loc_of, numbers_from, numbers_of};
+ghost use Rattle.rs_outlet.specs.Decided.News.{AreFree, change_of, seen, slot_of, written};
+ghost use Rattle.rs_outlet.specs.Decided.Plans.{HasRows, IsOutside, changes_in, news_in, news_of};
+
+use crate::changes::Change;
+use crate::filled::{Filled, Whole};
+use crate::news::News;
+use crate::table::Rows;
+use crate::waiting::{Sorting, Wait, Waits};
+use rs_rows::ROWS;
+use std::alloc::{AllocError, Global};
+
+/// News at one number, or at all of a block.
+#[derive(Drop)]
+pub(crate) enum Piece {
+    One(News),
+    Block(Whole),
+}
+
+impl Piece {
+    /// The same once more.
+    fn copy(&self) -> Result<Piece, AllocError>
+        ensures { IfOk result (λ copy. map seen (map change_of (news_of copy)) ≡ map seen (map change_of (news_of self.now))) }
+    {
+        match self {
+            Piece::One(news) => Ok(Piece::One(news.copy()?)),
+            Piece::Block(whole) => Ok(Piece::Block(whole.copy()?)),
+        }
+    }
+
+    /// How many news it has.
+    fn len(&self) -> usize
+        ensures { result ≡ length (news_of self.now) }
+    {
+        match self {
+            Piece::One(_) => 1,
+            Piece::Block(whole) => whole.filled.news.len(),
+        }
+    }
+}
+
+/// The first sixteen of these changes, if they fill a block.
+fn fill_first(alloc: Global, changes: &[Change]) -> Result<Option<Filled>, AllocError>
+    ensures many { IfOk result (λ made. IfSome made (λ filled. 16 ≤ length changes.now)) }
+    ensures same { IfOk result (λ made. IfSome made (λ filled. map seen (map change_of filled.news.items) ≡ map seen (take 16 changes.now))) }
+{
+    if changes.len() < ROWS {
+        return Ok(None);
+    }
+    Filled::of(alloc, &changes[..ROWS])
+}
+
+/// A piece of the first of these changes: of sixteen, if they fill a block; none where nothing is due.
+fn first_piece(alloc: Global, changes: &[Change]) -> Result<Option<Piece>, AllocError>
+    requires { 0 < length changes.now }
+    ensures within { IfOk result (λ made. IfSome made (λ piece. length (news_of piece) ≤ length changes.now)) }
+    ensures same { IfOk result (λ made. IfSome made (λ piece. map seen (map change_of (news_of piece)) ≡ map seen (take (length (news_of piece)) changes.now))) }
+{
+    if let Some(filled) = fill_first(alloc, changes)? {
+        return Ok(Some(Piece::Block(Whole::of(alloc, filled)?)));
+    }
+    match News::of(&changes[0])? {
+        None => Ok(None),
+        Some(news) => Ok(Some(Piece::One(news))),
+    }
+}
+
+/// The news that changes are, if something is due at each.
+pub(crate) fn pieces_of(alloc: Global, changes: &[Change]) -> Result<Option<Vec<Piece>>, AllocError>
+    ensures { IfOk result (λ made. IfSome made (λ pieces. map seen (changes_in pieces.items) ≡ map seen changes.now)) }
+{
+    let mut pieces = Vec::new(alloc);
+    let mut rest = changes;
+    while rest.len() > 0 {
+        let Some(piece) = first_piece(alloc, rest)? else {
+            return Ok(None);
+        };
+        rest = &rest[piece.len()..];
+        pieces.push(piece)?;
+    }
+    Ok(Some(pieces))
+}
+
+/// The same pieces once more.
+pub(crate) fn copied(alloc: Global, pieces: &[Piece]) -> Result<Vec<Piece>, AllocError>
+    ensures { IfOk result (λ copies. map seen (changes_in copies.items) ≡ map seen (changes_in pieces.now)) }
+{
+    let mut copies = Vec::with_capacity(alloc, pieces.len())?;
+    for piece in pieces {
+        copies.push(piece.copy()?)?;
+    }
+    Ok(copies)
+}
+
+/// Lists the changes that news are.
+fn list_changes(news: &[News], changes: &mut Vec<Change>) -> Result<(), AllocError>
+    ensures { OnOk result (map seen changes.new.items ≡ map seen changes.old.items ++ map seen (map change_of news.now)) }
+{
+    for one in news {
+        changes.push(one.change()?)?;
+    }
+    Ok(())
+}
+
+/// Lists the changes that a piece is.
+fn list_piece(piece: &Piece, changes: &mut Vec<Change>) -> Result<(), AllocError>
+    ensures { OnOk result (map seen changes.new.items ≡ map seen changes.old.items ++ map seen (map change_of (news_of piece.now))) }
+{
+    match piece {
+        Piece::One(news) => Ok(changes.push(news.change()?)?),
+        Piece::Block(whole) => list_changes(&whole.filled.news, changes),
+    }
+}
+
+/// The changes that pieces are.
+pub(crate) fn single_changes(alloc: Global, pieces: &[Piece]) -> Result<Vec<Change>, AllocError>
+    ensures { IfOk result (λ changes. map seen changes.items ≡ map seen (changes_in pieces.now)) }
+{
+    let mut changes = Vec::new(alloc);
+    for piece in pieces {
+        list_piece(piece, &mut changes)?;
+    }
+    Ok(changes)
+}
+
+/// How many news pieces have; none where they are too many to be counted.
+pub(crate) fn count(pieces: &[Piece]) -> Option<usize>
+    ensures { IfSome result (λ count. count ≡ length (news_in pieces.now)) }
+{
+    let mut count = 0usize;
+    for piece in pieces {
+        count = count.checked_add(piece.len())?;
+    }
+    Some(count)
+}
+
+/// Prepares the row of a piece, if it is not written with its block.
+fn prepare_one(rows: &mut Rows, piece: &Piece) -> Result<(), AllocError>
+    requires { AreBelow (map change_of (news_of piece.now)) (length rows.old.rows.items) }
+    ensures rows { rows.new.rows.items ≡ rows.old.rows.items }
+    ensures used { rows.new.used ≡ rows.old.used }
+    ensures kept { (n : ℕ) → IsPrepared rows.old.rows.prepared n → IsPrepared rows.new.rows.prepared n }
+    ensures prepared { OnOk result (HasRows rows.new.rows piece.now) }
+{
+    match piece {
+        Piece::One(news) => rows.prepare(news.number, false),
+        Piece::Block(_) => Ok(()),
+    }
+}
+
+/// Prepares the rows of pieces, but for those that are written with their block.
+pub(crate) fn prepare(rows: &mut Rows, pieces: &[Piece]) -> Result<(), AllocError>
+    requires { AreBelow (changes_in pieces.now) (length rows.old.rows.items) }
+    ensures rows { rows.new.rows.items ≡ rows.old.rows.items }
+    ensures used { rows.new.used ≡ rows.old.used }
+    ensures prepared { OnOk result (AllByRecursion (HasRows rows.new.rows) pieces.now) }
+{
+    for piece in pieces {
+        prepare_one(rows, piece)?;
+    }
+    Ok(())
+}
+
+/// Lists the slots of news. There is room for them.
+fn list_slots(fresh: &mut Vec<Wait>, news: &[News])
+    requires { vec_len fresh.old + length news.now ≤ vec_capacity fresh.old }
+    ensures items { fresh.new.items ≡ fresh.old.items ++ map slot_of news.now }
+    ensures capacity { vec_capacity fresh.new ≡ vec_capacity fresh.old }
+{
+    for one in news {
+        fresh.push_reserved(one.slot());
+    }
+}
+
+/// Carries out a piece: the rows have what is due, and it waits.
+fn put_piece(rows: &mut Rows, fresh: &mut Vec<Wait>, piece: Piece)
+    requires rows { HasRows rows.old.rows piece }
+    requires free { AreFree rows.old.rows.items (news_of piece) }
+    requires room { vec_len fresh.old + length (news_of piece) ≤ vec_capacity fresh.old }
+    ensures rows { rows.new.rows.items ≡ written (news_of piece) rows.old.rows.items }
+    ensures room { length rows.new.rows.items ≡ length rows.old.rows.items }
+    ensures kept { (m : ℕ) → IsOutside piece m → IsPrepared rows.old.rows.prepared m → IsPrepared rows.new.rows.prepared m }
+    ensures used { rows.new.used ≡ rows.old.used + length (news_of piece) }
+    ensures fresh { fresh.new.items ≡ fresh.old.items ++ map slot_of (news_of piece) }
+    ensures capacity { vec_capacity fresh.new ≡ vec_capacity fresh.old }
+{
+    match piece {
+        Piece::One(news) => {
+            fresh.push_reserved(news.slot());
+            let News {
+                number,
+                prefix,
+                attrs,
+            } = news;
+            rows.put(number, prefix, attrs);
+        }
+        Piece::Block(whole) => {
+            list_slots(fresh, &whole.filled.news);
+            rows.put_block(whole);
+        }
+    }
+}
+
+/// Carries out pieces, for which there is room, in free rows.
+fn put_pieces(rows: &mut Rows, fresh: &mut Vec<Wait>, pieces: Vec<Piece>)
+    requires rows { AllByRecursion (HasRows rows.old.rows) pieces.items }
+    requires free { AreFree rows.old.rows.items (news_in pieces.items) }
+    requires numbers { IsDistinct nat_eq (numbers_of (changes_in pieces.items)) }
+    requires room { vec_len fresh.old + length (news_in pieces.items) ≤ vec_capacity fresh.old }
+    ensures rows { rows.new.rows.items ≡ written (news_in pieces.items) rows.old.rows.items }
+    ensures used { rows.new.used ≡ rows.old.used + length (news_in pieces.items) }
+    ensures fresh { fresh.new.items ≡ fresh.old.items ++ map slot_of (news_in pieces.items) }
+{
+    for piece in pieces {
+        put_piece(rows, fresh, piece);
+    }
+}
+
+/// Carries out pieces, for which there is room, in free rows and where nothing waits. Without one all stays as it is.
+pub(crate) fn commit(
+    rows: &mut Rows,
+    waits: &mut Waits,
+    pieces: Vec<Piece>,
+    mut fresh: Vec<Wait>,
+    sorting: &mut Sorting,
+)
+    requires rows { AllByRecursion (HasRows rows.old.rows) pieces.items }
+    requires once { IsDistinct (eq_by_cmp prefix_order) (prefixes_of (changes_in pieces.items)) }
+    requires numbers { IsDistinct nat_eq (numbers_of (changes_in pieces.items)) }
+    requires idle { nat_eq (open_count waits.old.slots.items) 0 ≡ true }
+    requires free { AreFree rows.old.rows.items (news_in pieces.items) }
+    requires none { fresh.items ≡ [] }
+    requires fresh { length (changes_in pieces.items) ≤ vec_capacity fresh }
+    requires waits { open_count waits.old.slots.items + length (changes_in pieces.items) ≤ vec_capacity waits.old.slots }
+    requires all { rows.old.used + withdrawn_count waits.old.slots.items + length (changes_in pieces.items) ≤ vec_capacity waits.old.slots }
+    ensures all { rows.new.used + withdrawn_count waits.new.slots.items ≤ vec_capacity waits.new.slots }
+    ensures loc { (ins : AdjIns) (due : Prefix → Option (List Attribute)) → ArePlaced (changes_in pieces.items) ins → AreDue due (changes_in pieces.items) → HaveNumbers (numbers_from 0 rows.old.rows.items) ins → (q : Prefix) → fin.get (loc_of rows.new.rows.items) q ≡ (if is_changed (changes_in pieces.items) q then due q else fin.get (loc_of rows.old.rows.items) q) }
+    ensures numbered { (ins : AdjIns) → ArePlaced (changes_in pieces.items) ins → HaveNumbers (numbers_from 0 rows.old.rows.items) ins → HaveNumbers (numbers_from 0 rows.new.rows.items) ins }
+    ensures none { pieces.items ≡ [] → (rows.new ≡ rows.old) × (waits.new ≡ waits.old) }
+    ensures chained { AreChained rows.new.rows.items (take waits.new.sorted waits.new.slots.items) waits.new.chains.items }
+    ensures backed { AreBacked rows.old.rows.items waits.old.slots.items → AreBacked rows.new.rows.items waits.new.slots.items }
+    ensures fit { (speech : Speech) → ChangesFit speech (changes_in pieces.items) → RowsFit speech rows.old.rows.items → RowsFit speech rows.new.rows.items }
+    ensures keeps { (ins : AdjIns) → ArePlaced (changes_in pieces.items) ins → HaveNumbers (numbers_from 0 rows.old.rows.items) ins → (q : Prefix) → Keeps (open_at q waits.old.slots.items) (fin.get (loc_of rows.old.rows.items) q) (open_at q waits.new.slots.items) (fin.get (loc_of rows.new.rows.items) q) }
+{
+    if pieces.is_empty() {
+        return;
+    }
+    put_pieces(rows, &mut fresh, pieces);
+    waits.add(fresh, sorting);
+}
