@@ -4,6 +4,7 @@ pub mod Slots
 pub mod Parts
 pub mod Marking
 pub mod Owed
+pub mod CarriedOut
 pub mod Chains
 pub mod Linking
 pub mod Choosing

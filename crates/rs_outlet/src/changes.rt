@@ -1,12 +1,11 @@
 //! The changes of a turn carried out: the rows have what is due, and what the client was not told so waits.
 
-ghost use Rattle.std.specs.Prelude.{◌≡◌, ◌≢◌, ◌<◌, ◌≤◌, ◌+◌, ◌++◌, ℕ, [], List, Option, None, Some, true, nat_eq, option_map, length, take, vec_len, if◌then◌else◌, IfSome, IfOk, IsTrue, OnOk};
+ghost use Rattle.std.specs.Prelude.{◌≡◌, ◌≢◌, ◌<◌, ◌≤◌, ◌+◌, ◌++◌, ℕ, [], Option, None, Some, true, nat_eq, option_map, length, take, vec_len, if◌then◌else◌, IfSome, OnOk};
 ghost use Rattle.std.specs.List.{IsDistinct};
 ghost use Rattle.std.specs.Arc.{arc_value};
 ghost use Rattle.std.specs.FinMap as fin;
 ghost use Rattle.std.specs.Ordering.{eq_by_cmp};
 ghost use Rattle.rs_octets.specs.Prefixes.{Prefix, prefix_order};
-ghost use Rattle.rs_attrs.specs.Meaning.{Attribute};
 ghost use Rattle.rs_attrs.specs.Comparing.{attributes_hash};
 ghost use Rattle.rs_adjin.specs.declared.adj_ins.AdjIns.{AdjIns};
 ghost use Rattle.rs_adjin.specs.AdjIns.{number_of};
@@ -14,11 +13,12 @@ ghost use Rattle.rs_outlet.specs.Views.{HaveNumbers};
 ghost use Rattle.rs_rows.specs.Cells.{taken_of};
 ghost use Rattle.rs_rows.specs.Rows.{IsPrepared};
 ghost use Rattle.std.specs.Vec.{vec_capacity};
-ghost use Rattle.rs_outlet.specs.Pending.Slots.{open_at, open_count, withdrawn_count};
-ghost use Rattle.rs_outlet.specs.Pending.Owed.{IsBeside, IsCarriedOut, IsOpenAt, IsOwed, Keeps, listed, prefixes_of};
+ghost use Rattle.rs_outlet.specs.Pending.Slots.{open_count, withdrawn_count};
+ghost use Rattle.rs_outlet.specs.Pending.CarriedOut.{AreCarriedOut};
+ghost use Rattle.rs_outlet.specs.Pending.Owed.{IsBeside, IsCarriedOut, IsOpenAt, IsOwed, listed, prefixes_of};
 ghost use Rattle.rs_outlet.specs.declared.answers.Speech.{Speech};
 ghost use Rattle.rs_outlet.specs.declared.waiting.Due.{Due};
-ghost use Rattle.rs_outlet.specs.Inside.{AreBacked, AreBelow, AreChained, AreDue, AreOwn, ArePlaced, ChangesFit, FitsAlone, HaveRows, IsOwn, RowsFit, attributes_at, is_changed, numbers_of, row_at, loc_of, numbers_from};
+ghost use Rattle.rs_outlet.specs.Inside.{AreBacked, AreBelow, AreChained, AreOwn, FitsAlone, HaveRows, IsOwn, RowsFit, attributes_at, numbers_of, row_at, loc_of, numbers_from};
 
 use crate::table::Rows;
 use crate::waiting::{Due, Sorting, Told, Wait, Waits};
@@ -178,14 +178,8 @@ pub(crate) fn commit(
     requires fresh { vec_len changes ≤ vec_capacity fresh }
     requires waits { open_count waits.old.slots.items + vec_len changes ≤ vec_capacity waits.old.slots }
     requires all { rows.old.used + withdrawn_count waits.old.slots.items + vec_len changes ≤ vec_capacity waits.old.slots }
-    ensures all { rows.new.used + withdrawn_count waits.new.slots.items ≤ vec_capacity waits.new.slots }
-    ensures loc { (ins : AdjIns) (due : Prefix → Option (List Attribute)) → ArePlaced changes.items ins → AreDue due changes.items → HaveNumbers (numbers_from 0 rows.old.rows.items) ins → (q : Prefix) → fin.get (loc_of rows.new.rows.items) q ≡ (if is_changed changes.items q then due q else fin.get (loc_of rows.old.rows.items) q) }
-    ensures numbered { (ins : AdjIns) → ArePlaced changes.items ins → HaveNumbers (numbers_from 0 rows.old.rows.items) ins → HaveNumbers (numbers_from 0 rows.new.rows.items) ins }
+    ensures done { AreCarriedOut changes.items rows.old waits.old rows.new waits.new }
     ensures none { changes.items ≡ [] → (rows.new ≡ rows.old) × (waits.new ≡ waits.old) }
-    ensures chained { AreBacked rows.old.rows.items waits.old.slots.items → AreChained rows.old.rows.items (take waits.old.sorted waits.old.slots.items) waits.old.chains.items → AreChained rows.new.rows.items (take waits.new.sorted waits.new.slots.items) waits.new.chains.items }
-    ensures backed { AreBacked rows.old.rows.items waits.old.slots.items → AreBacked rows.new.rows.items waits.new.slots.items }
-    ensures fit { (speech : Speech) → ChangesFit speech changes.items → RowsFit speech rows.old.rows.items → RowsFit speech rows.new.rows.items }
-    ensures keeps { (ins : AdjIns) → ArePlaced changes.items ins → HaveNumbers (numbers_from 0 rows.old.rows.items) ins → (q : Prefix) → Keeps (open_at q waits.old.slots.items) (fin.get (loc_of rows.old.rows.items) q) (open_at q waits.new.slots.items) (fin.get (loc_of rows.new.rows.items) q) }
 {
     if changes.is_empty() {
         return;

@@ -1,20 +1,15 @@
 //! What is news to several clients, in pieces: one by one, or all of a block of rows.
 
-ghost use Rattle.std.specs.Prelude.{◌≡◌, ◌≢◌, ◌<◌, ◌≤◌, ◌+◌, ◌*◌, ◌/◌, ◌++◌, ℕ, [], List, Option, Some, true, nat_eq, map, length, take, vec_len, if◌then◌else◌, IfOk, IfSome, OnOk};
-ghost use Rattle.std.specs.FinMap as fin;
+ghost use Rattle.std.specs.Prelude.{◌≡◌, ◌<◌, ◌≤◌, ◌+◌, ◌/◌, ◌++◌, ℕ, [], Option, Some, true, nat_eq, map, length, take, vec_len, IfOk, IfSome, OnOk};
 ghost use Rattle.std.specs.Ordering.{eq_by_cmp};
-ghost use Rattle.rs_octets.specs.Prefixes.{Prefix, prefix_order};
-ghost use Rattle.rs_attrs.specs.Meaning.{Attribute};
-ghost use Rattle.rs_adjin.specs.declared.adj_ins.AdjIns.{AdjIns};
-ghost use Rattle.rs_outlet.specs.Views.{HaveNumbers};
-ghost use Rattle.rs_outlet.specs.declared.answers.Speech.{Speech};
-ghost use Rattle.rs_outlet.specs.Pending.Owed.{Keeps, prefixes_of};
-ghost use Rattle.rs_outlet.specs.Pending.Slots.{open_at, open_count, withdrawn_count};
-ghost use Rattle.std.specs.Arc.{arc_value};
+ghost use Rattle.rs_octets.specs.Prefixes.{prefix_order};
+ghost use Rattle.rs_outlet.specs.Pending.CarriedOut.{AreCarriedOut};
+ghost use Rattle.rs_outlet.specs.Pending.Owed.{prefixes_of};
+ghost use Rattle.rs_outlet.specs.Pending.Slots.{open_count, withdrawn_count};
 ghost use Rattle.std.specs.List.{AllByRecursion, IsDistinct};
 ghost use Rattle.std.specs.Vec.{vec_capacity};
 ghost use Rattle.rs_rows.specs.Rows.{IsPrepared};
-ghost use Rattle.rs_outlet.specs.Inside.{AreBacked, AreBelow, AreChained, AreDue, ArePlaced, ChangesFit, RowsFit, is_changed, loc_of, numbers_from, numbers_of};
+ghost use Rattle.rs_outlet.specs.Inside.{AreBelow, numbers_of};
 ghost use Rattle.rs_outlet.specs.Decided.News.{AreFree, change_of, seen, slot_of, written};
 ghost use Rattle.rs_outlet.specs.Decided.Plans.{HasRows, IsOutside, changes_in, news_in, news_of};
 
@@ -249,14 +244,8 @@ pub(crate) fn commit(
     requires fresh { length (changes_in pieces.items) ≤ vec_capacity fresh }
     requires waits { open_count waits.old.slots.items + length (changes_in pieces.items) ≤ vec_capacity waits.old.slots }
     requires all { rows.old.used + withdrawn_count waits.old.slots.items + length (changes_in pieces.items) ≤ vec_capacity waits.old.slots }
-    ensures all { rows.new.used + withdrawn_count waits.new.slots.items ≤ vec_capacity waits.new.slots }
-    ensures loc { (ins : AdjIns) (due : Prefix → Option (List Attribute)) → ArePlaced (changes_in pieces.items) ins → AreDue due (changes_in pieces.items) → HaveNumbers (numbers_from 0 rows.old.rows.items) ins → (q : Prefix) → fin.get (loc_of rows.new.rows.items) q ≡ (if is_changed (changes_in pieces.items) q then due q else fin.get (loc_of rows.old.rows.items) q) }
-    ensures numbered { (ins : AdjIns) → ArePlaced (changes_in pieces.items) ins → HaveNumbers (numbers_from 0 rows.old.rows.items) ins → HaveNumbers (numbers_from 0 rows.new.rows.items) ins }
+    ensures done { AreCarriedOut (changes_in pieces.items) rows.old waits.old rows.new waits.new }
     ensures none { pieces.items ≡ [] → (rows.new ≡ rows.old) × (waits.new ≡ waits.old) }
-    ensures chained { AreChained rows.new.rows.items (take waits.new.sorted waits.new.slots.items) waits.new.chains.items }
-    ensures backed { AreBacked rows.old.rows.items waits.old.slots.items → AreBacked rows.new.rows.items waits.new.slots.items }
-    ensures fit { (speech : Speech) → ChangesFit speech (changes_in pieces.items) → RowsFit speech rows.old.rows.items → RowsFit speech rows.new.rows.items }
-    ensures keeps { (ins : AdjIns) → ArePlaced (changes_in pieces.items) ins → HaveNumbers (numbers_from 0 rows.old.rows.items) ins → (q : Prefix) → Keeps (open_at q waits.old.slots.items) (fin.get (loc_of rows.old.rows.items) q) (open_at q waits.new.slots.items) (fin.get (loc_of rows.new.rows.items) q) }
 {
     if pieces.is_empty() {
         return;

@@ -1,19 +1,15 @@
 //! What a turn changes, made room for and carried out.
 
-ghost use Rattle.std.specs.Prelude.{◌≡◌, ◌≤◌, ◌<◌, ◌+◌, ℕ, [], List, Option, IfOk, IfSome, OnOk, true, nat_eq, length, take, vec_len, if◌then◌else◌};
-ghost use Rattle.std.specs.FinMap as fin;
+ghost use Rattle.std.specs.Prelude.{◌≡◌, ◌≤◌, ◌<◌, ◌+◌, ℕ, [], Option, IfOk, IfSome, OnOk, true, nat_eq, length, take};
 ghost use Rattle.std.specs.List.{IsDistinct};
 ghost use Rattle.std.specs.Ordering.{eq_by_cmp};
 ghost use Rattle.std.specs.Vec.{vec_capacity};
-ghost use Rattle.rs_octets.specs.Prefixes.{Prefix, prefix_order};
-ghost use Rattle.rs_attrs.specs.Meaning.{Attribute};
-ghost use Rattle.rs_adjin.specs.declared.adj_ins.AdjIns.{AdjIns};
-ghost use Rattle.rs_outlet.specs.Views.{HaveNumbers};
-ghost use Rattle.rs_outlet.specs.declared.answers.Speech.{Speech};
-ghost use Rattle.rs_outlet.specs.Decided.Plans.{HasRoom, IsFor, changes_in, changes_of, is_none};
-ghost use Rattle.rs_outlet.specs.Pending.Owed.{Keeps, prefixes_of};
-ghost use Rattle.rs_outlet.specs.Pending.Slots.{open_at, open_count, withdrawn_count};
-ghost use Rattle.rs_outlet.specs.Inside.{AreBacked, AreBelow, AreChained, AreDue, AreOwn, ArePlaced, ChangesFit, RowsFit, is_changed, loc_of, numbers_from, numbers_of, row_at};
+ghost use Rattle.rs_octets.specs.Prefixes.{prefix_order};
+ghost use Rattle.rs_outlet.specs.Decided.Plans.{HasRoom, IsFor, changes_of, is_none};
+ghost use Rattle.rs_outlet.specs.Pending.CarriedOut.{AreCarriedOut};
+ghost use Rattle.rs_outlet.specs.Pending.Owed.{prefixes_of};
+ghost use Rattle.rs_outlet.specs.Pending.Slots.{open_count, withdrawn_count};
+ghost use Rattle.rs_outlet.specs.Inside.{AreBelow, AreOwn, loc_of, numbers_from, numbers_of, row_at};
 
 use crate::changes::{self, Change};
 use crate::pieces::{self, Piece};
@@ -131,14 +127,8 @@ impl Plan {
         requires fresh { length (changes_of self) ≤ vec_capacity fresh }
         requires waits { open_count waits.old.slots.items + length (changes_of self) ≤ vec_capacity waits.old.slots }
         requires all { rows.old.used + withdrawn_count waits.old.slots.items + length (changes_of self) ≤ vec_capacity waits.old.slots }
-        ensures all { rows.new.used + withdrawn_count waits.new.slots.items ≤ vec_capacity waits.new.slots }
-        ensures loc { (ins : AdjIns) (due : Prefix → Option (List Attribute)) → ArePlaced (changes_of self) ins → AreDue due (changes_of self) → HaveNumbers (numbers_from 0 rows.old.rows.items) ins → (q : Prefix) → fin.get (loc_of rows.new.rows.items) q ≡ (if is_changed (changes_of self) q then due q else fin.get (loc_of rows.old.rows.items) q) }
-        ensures numbered { (ins : AdjIns) → ArePlaced (changes_of self) ins → HaveNumbers (numbers_from 0 rows.old.rows.items) ins → HaveNumbers (numbers_from 0 rows.new.rows.items) ins }
+        ensures done { AreCarriedOut (changes_of self) rows.old waits.old rows.new waits.new }
         ensures none { is_none self ≡ true → (rows.new ≡ rows.old) × (waits.new ≡ waits.old) }
-        ensures chained { AreBacked rows.old.rows.items waits.old.slots.items → AreChained rows.old.rows.items (take waits.old.sorted waits.old.slots.items) waits.old.chains.items → AreChained rows.new.rows.items (take waits.new.sorted waits.new.slots.items) waits.new.chains.items }
-        ensures backed { AreBacked rows.old.rows.items waits.old.slots.items → AreBacked rows.new.rows.items waits.new.slots.items }
-        ensures fit { (speech : Speech) → ChangesFit speech (changes_of self) → RowsFit speech rows.old.rows.items → RowsFit speech rows.new.rows.items }
-        ensures keeps { (ins : AdjIns) → ArePlaced (changes_of self) ins → HaveNumbers (numbers_from 0 rows.old.rows.items) ins → (q : Prefix) → Keeps (open_at q waits.old.slots.items) (fin.get (loc_of rows.old.rows.items) q) (open_at q waits.new.slots.items) (fin.get (loc_of rows.new.rows.items) q) }
     {
         match self {
             Plan::Own(changes) => changes::commit(rows, waits, changes, fresh, sorting),

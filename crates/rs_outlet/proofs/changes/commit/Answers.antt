@@ -93,32 +93,33 @@ loop-change-preserved c =
           (c.carry_out.ensures.loc ins placed (inv.numbered ins p h) q));
     }
 
-pub returns-then-is_empty-clause-loc : goal.returns-then-is_empty-clause-loc
-returns-then-is_empty-clause-loc c = λ ins due p d h q.
-    ap (λ cs. cond (is_changed cs q) (due q) (fin.get (loc_of c.args.rows.now.rows.items) q)) (no_elements c.args.changes.items (let e : length c.args.changes.items ≡ 0 = grind (arith, nat_tests, c.is_empty.ensures, c.if-is_empty.true, c.args.changes.ok) in e))
-
-pub returns-then-is_empty-clause-keeps : goal.returns-then-is_empty-clause-keeps
-returns-then-is_empty-clause-keeps c = λ ins p h q. keeps_same _ _ _ _ refl refl
-
 pub returns-clause-none : goal.returns-clause-none
 returns-clause-none c = λ none. absurd (grind (arith, nat_tests, ap length none, c.args.changes.ok, c.is_empty.ensures, c.if-is_empty.false))
 
-pub returns-clause-chained : goal.returns-clause-chained
-returns-clause-chained c = λ backed chained. c.add.ensures.chained c.loop-change.rows.rows.items (c.loop-change.invariant.chained backed chained)
+pub returns-then-is_empty-clause-done : goal.returns-then-is_empty-clause-done
+returns-then-is_empty-clause-done c = record {
+  all = omega (arith, c.requires.all);
+  loc = λ ins due p d h q.
+      ap (λ cs. cond (is_changed cs q) (due q) (fin.get (loc_of c.args.rows.now.rows.items) q)) (no_elements c.args.changes.items (let e : length c.args.changes.items ≡ 0 = grind (arith, nat_tests, c.is_empty.ensures, c.if-is_empty.true, c.args.changes.ok) in e));
+  numbered = λ ins p h. h;
+  chained = λ _ chained. chained;
+  backed = λ backed. backed;
+  fit = λ speech new fit. fit;
+  keeps = λ ins p h q. keeps_same _ _ _ _ refl refl;
+}
 
-pub returns-clause-loc : goal.returns-clause-loc
-returns-clause-loc c = λ ins due p d h q.
-    let it = c.loop-change.change-iterator in
-    let none : [] ≡ into_iter_items it = no_elements _ (let e : length (into_iter_items it) ≡ 0 = omega (arith, c.in-None.ensures.steps.0, it.rest.ok) in e) in
-    ap (λ cs. cond (is_changed cs q) (due q) (fin.get (loc_of c.loop-change.rows.rows.items) q)) none
-    ∙ c.loop-change.invariant.loc ins due p d h q
-
-pub returns-clause-keeps : goal.returns-clause-keeps
-returns-clause-keeps c = λ ins p h q.
-    keeps_both _ _ _ _ _ _ (c.loop-change.invariant.keeps ins p h q) (keeps_same _ _ _ _ (c.add.ensures.slots q) refl)
-
-pub returns-clause-all : goal.returns-clause-all
-returns-clause-all c = omega (arith, c.loop-change.invariant.all, c.loop-change.invariant.capacity, c.add.ensures.withdrawn, c.add.ensures.capacity)
-
-pub returns-clause-backed : goal.returns-clause-backed
-returns-clause-backed c = λ backed q w is. c.loop-change.invariant.backed backed q w (sym (c.add.ensures.slots q) ∙ is)
+pub returns-clause-done : goal.returns-clause-done
+returns-clause-done c = record {
+  all = omega (arith, c.loop-change.invariant.all, c.loop-change.invariant.capacity, c.add.ensures.withdrawn, c.add.ensures.capacity);
+  loc = λ ins due p d h q.
+      let it = c.loop-change.change-iterator in
+      let none : [] ≡ into_iter_items it = no_elements _ (let e : length (into_iter_items it) ≡ 0 = omega (arith, c.in-None.ensures.steps.0, it.rest.ok) in e) in
+      ap (λ cs. cond (is_changed cs q) (due q) (fin.get (loc_of c.loop-change.rows.rows.items) q)) none
+      ∙ c.loop-change.invariant.loc ins due p d h q;
+  numbered = λ ins p h. c.loop-change.invariant.numbered ins p h;
+  chained = λ backed chained. c.add.ensures.chained c.loop-change.rows.rows.items (c.loop-change.invariant.chained backed chained);
+  backed = λ backed q w is. c.loop-change.invariant.backed backed q w (sym (c.add.ensures.slots q) ∙ is);
+  fit = λ speech new fit. c.loop-change.invariant.fit speech new fit;
+  keeps = λ ins p h q.
+      keeps_both _ _ _ _ _ _ (c.loop-change.invariant.keeps ins p h q) (keeps_same _ _ _ _ (c.add.ensures.slots q) refl);
+}

@@ -54,7 +54,7 @@ returns-clause-numbered c = λ are.
     let ins = c.args.sources.now.ins.now in
     let P = λ (e : ℕ × Prefix). number_of ins e.1 ≡ Some e.0 in
     all_both P (numbers_from 0 c.carry_out.new.rows.rows.items) _
-    (c.carry_out.ensures.numbered ins c.in_ok-plan.ensures.plan.decided.placed (subst (λ es. HaveNumbers es ins) (sym c.make_room.ensures.numbers) (rows_numbered ins c.self.inside c.args.self.now c.self.view_is are)))
+    (c.carry_out.ensures.done.numbered ins c.in_ok-plan.ensures.plan.decided.placed (subst (λ es. HaveNumbers es ins) (sym c.make_room.ensures.numbers) (rows_numbered ins c.self.inside c.args.self.now c.self.view_is are)))
     (subst (AllByRecursion P) (sym c.clear.ensures.prefixes) tt)
 
 -- what is not stale is due
@@ -82,7 +82,7 @@ returns-clause-due c = λ are p.
     (stale_at ins a.rows.rows.items a.touched.prefixes.items a.touched.all due_at (changes_of c.in_ok-plan.field-0.plan)
     (rows_numbered ins a c.args.self.now c.self.view_is are) (touched_numbered ins a c.args.self.now c.self.view_is are) c.in_ok-plan.ensures.plan.decided
     (due_unnumbered c.args.sources.now.config.now ins c.args.sources.now.client c.args.speech)
-    p _ (changed ins a c.args.self.now due_at (changes_of c.in_ok-plan.field-0.plan) c.make_room.new.rows.rows.items c.carry_out.new.rows.rows.items c.self.view_is c.make_room.ensures.numbers c.make_room.ensures.loc (c.carry_out.ensures.loc ins due_at c.in_ok-plan.ensures.plan.decided.placed c.in_ok-plan.ensures.plan.decided.due) are p)
+    p _ (changed ins a c.args.self.now due_at (changes_of c.in_ok-plan.field-0.plan) c.make_room.new.rows.rows.items c.carry_out.new.rows.rows.items c.self.view_is c.make_room.ensures.numbers c.make_room.ensures.loc (c.carry_out.ensures.done.loc ins due_at c.in_ok-plan.ensures.plan.decided.placed c.in_ok-plan.ensures.plan.decided.due) are p)
     ∙ ap (λ (v : View). cond (is_touched (stale_of a.touched.all a.touched.prefixes.items) p) (due_at p) (fin.get v.loc p)) c.self.view_is)
 
 pub returns-clause-loc : goal.returns-clause-loc
@@ -95,7 +95,7 @@ returns-clause-loc c = λ are current p.
     (rows_numbered ins a c.args.self.now c.self.view_is are) (touched_numbered ins a c.args.self.now c.self.view_is are) c.in_ok-plan.ensures.plan.decided
     (due_unnumbered config ins c.args.sources.now.client c.args.speech)
     (as_due config ins a c.args.self.now c.args.speech c.args.sources.now.client c.self.view_is c.requires.speech c.requires.own current)
-    p _ (changed ins a c.args.self.now due_at (changes_of c.in_ok-plan.field-0.plan) c.make_room.new.rows.rows.items c.carry_out.new.rows.rows.items c.self.view_is c.make_room.ensures.numbers c.make_room.ensures.loc (c.carry_out.ensures.loc ins due_at c.in_ok-plan.ensures.plan.decided.placed c.in_ok-plan.ensures.plan.decided.due) are p)
+    p _ (changed ins a c.args.self.now due_at (changes_of c.in_ok-plan.field-0.plan) c.make_room.new.rows.rows.items c.carry_out.new.rows.rows.items c.self.view_is c.make_room.ensures.numbers c.make_room.ensures.loc (c.carry_out.ensures.done.loc ins due_at c.in_ok-plan.ensures.plan.decided.placed c.in_ok-plan.ensures.plan.decided.due) are p)
     ∙ ap (λ (v : View). cond (is_touched v.touched p) (due_at p) (fin.get v.loc p)) c.self.view_is
 
 pub returns-clause-count : goal.returns-clause-count
@@ -134,7 +134,7 @@ returns-clause-told c = λ are.
     let ins = c.args.sources.now.ins.now in
     let a = c.self.inside in
     told_kept (loc_of a.rows.rows.items) (loc_of c.carry_out.new.rows.rows.items) a.waits.slots.items c.carry_out.new.waits.slots.items
-    (keeps ins a c.args.self.now c.make_room.new.rows.rows.items c.carry_out.new.rows.rows.items c.make_room.new.waits.slots.items c.carry_out.new.waits.slots.items c.self.view_is c.make_room.ensures.numbers c.make_room.ensures.loc c.make_room.ensures.waits (c.carry_out.ensures.keeps ins c.in_ok-plan.ensures.plan.decided.placed) are)
+    (keeps ins a c.args.self.now c.make_room.new.rows.rows.items c.carry_out.new.rows.rows.items c.make_room.new.waits.slots.items c.carry_out.new.waits.slots.items c.self.view_is c.make_room.ensures.numbers c.make_room.ensures.loc c.make_room.ensures.waits (c.carry_out.ensures.done.keeps ins c.in_ok-plan.ensures.plan.decided.placed) are)
     ∙ ap (λ (v : View). v.told) c.self.view_is
 
 pub returns-clause-marked : goal.returns-clause-marked
@@ -142,7 +142,7 @@ returns-clause-marked c = λ are.
     let ins = c.args.sources.now.ins.now in
     let a = c.self.inside in
     marked_kept (loc_of a.rows.rows.items) (loc_of c.carry_out.new.rows.rows.items) a.waits.slots.items c.carry_out.new.waits.slots.items
-    (keeps ins a c.args.self.now c.make_room.new.rows.rows.items c.carry_out.new.rows.rows.items c.make_room.new.waits.slots.items c.carry_out.new.waits.slots.items c.self.view_is c.make_room.ensures.numbers c.make_room.ensures.loc c.make_room.ensures.waits (c.carry_out.ensures.keeps ins c.in_ok-plan.ensures.plan.decided.placed) are)
+    (keeps ins a c.args.self.now c.make_room.new.rows.rows.items c.carry_out.new.rows.rows.items c.make_room.new.waits.slots.items c.carry_out.new.waits.slots.items c.self.view_is c.make_room.ensures.numbers c.make_room.ensures.loc c.make_room.ensures.waits (c.carry_out.ensures.done.keeps ins c.in_ok-plan.ensures.plan.decided.placed) are)
     ∙ ap (λ (v : View). v.marked) c.self.view_is
 
 pub returns-clause-exact : goal.returns-clause-exact
@@ -150,7 +150,7 @@ returns-clause-exact c = λ are exact.
     let ins = c.args.sources.now.ins.now in
     let a = c.self.inside in
     exact_kept (loc_of a.rows.rows.items) (loc_of c.carry_out.new.rows.rows.items) a.waits.slots.items c.carry_out.new.waits.slots.items
-    (keeps ins a c.args.self.now c.make_room.new.rows.rows.items c.carry_out.new.rows.rows.items c.make_room.new.waits.slots.items c.carry_out.new.waits.slots.items c.self.view_is c.make_room.ensures.numbers c.make_room.ensures.loc c.make_room.ensures.waits (c.carry_out.ensures.keeps ins c.in_ok-plan.ensures.plan.decided.placed) are)
+    (keeps ins a c.args.self.now c.make_room.new.rows.rows.items c.carry_out.new.rows.rows.items c.make_room.new.waits.slots.items c.carry_out.new.waits.slots.items c.self.view_is c.make_room.ensures.numbers c.make_room.ensures.loc c.make_room.ensures.waits (c.carry_out.ensures.done.keeps ins c.in_ok-plan.ensures.plan.decided.placed) are)
     (subst WaitsAreExact (sym c.self.view_is) exact)
 
 pub carry_out-requires-clause-own : goal.carry_out-requires-clause-own
@@ -188,13 +188,13 @@ invariant_of-self-2 c =
       ended = kept.ended;
       front = kept.front;
       chosen = kept.chosen;
-      slots = c.carry_out.ensures.all;
+      slots = c.carry_out.ensures.done.all;
       extended = kept.extended;
-      backed = c.carry_out.ensures.backed (are_backed_same a.rows.rows.items c.make_room.new.rows.rows.items a.waits.slots.items c.make_room.new.waits.slots.items c.make_room.ensures.rows c.make_room.ensures.waits kept.backed);
-      chained = c.carry_out.ensures.chained (are_backed_same a.rows.rows.items c.make_room.new.rows.rows.items a.waits.slots.items c.make_room.new.waits.slots.items c.make_room.ensures.rows c.make_room.ensures.waits kept.backed)
+      backed = c.carry_out.ensures.done.backed (are_backed_same a.rows.rows.items c.make_room.new.rows.rows.items a.waits.slots.items c.make_room.new.waits.slots.items c.make_room.ensures.rows c.make_room.ensures.waits kept.backed);
+      chained = c.carry_out.ensures.done.chained (are_backed_same a.rows.rows.items c.make_room.new.rows.rows.items a.waits.slots.items c.make_room.new.waits.slots.items c.make_room.ensures.rows c.make_room.ensures.waits kept.backed)
           (same_chained a.rows.rows.items c.make_room.new.rows.rows.items (take a.waits.sorted a.waits.slots.items) (take c.make_room.new.waits.sorted c.make_room.new.waits.slots.items) a.waits.chains.items _ c.make_room.ensures.rows (λ i. take (c.make_room.ensures.sorted i) (c.make_room.ensures.waits i)) c.make_room.ensures.chains kept.chained);
       fit = fit_spoken c.carry_out.new.rows.rows.items a.speech c.args.speech is
-          (c.carry_out.ensures.fit c.args.speech
+          (c.carry_out.ensures.done.fit c.args.speech
           (changes_fit (held_by c.args.sources.now) c.args.sources.now.client c.args.speech (changes_of c.in_ok-plan.field-0.plan) c.in_ok-plan.ensures.plan.decided.due)
           (fit_same c.args.speech a.rows.rows.items c.make_room.new.rows.rows.items c.make_room.ensures.rows (kept.fit c.args.speech is)));
       asked = λ is.
