@@ -24,6 +24,19 @@ const STRIPPED: &str = concat!(
     "export = [{ action = \"pass\", strip = [\"64512:2\"] }]\n",
 );
 
+/// The same members, but that two use the same rules, so that they are decided alike.
+const DECIDED_ALIKE: &str = concat!(
+    "as = 64500\nidentifier = \"192.0.2.1\"\n",
+    "[[rules]]\nname = \"one\"\nrules = [{ action = \"pass\", strip = [\"64512:1\"] }]\n",
+    "[[client]]\nname = \"a\"\nas = 64512\nlisten = \"127.0.0.1:17901\"\npeer = \"127.0.1.1\"\n",
+    "[[client]]\nname = \"b\"\nas = 64513\nlisten = \"127.0.0.1:17901\"\npeer = \"127.0.1.2\"\n",
+    "export = [{ use = \"one\" }]\n",
+    "[[client]]\nname = \"c\"\nas = 64514\nlisten = \"127.0.0.1:17901\"\npeer = \"127.0.1.3\"\n",
+    "export = [{ use = \"one\" }]\n",
+    "[[client]]\nname = \"d\"\nas = 64515\nlisten = \"127.0.0.1:17901\"\npeer = \"127.0.1.4\"\n",
+    "export = [{ action = \"pass\", strip = [\"64512:2\"] }]\n",
+);
+
 /// A sender, and a member to which 18 rules take 64512:1 out of routes with another community, by patterns of their own.
 const MANY_STRIPS: &str = concat!(
     "as = 64500\nidentifier = \"192.0.2.1\"\n",
@@ -168,7 +181,7 @@ fn turn_three(
 /// to which other rules apply: each set that is left has an owner for each of its two prefixes, in these blocks or the other's.
 #[test]
 fn what_was_decided_serves_those_alike(rt: HostRuntime) {
-    let mut exchange = Exchange::of(&rt, rt.alloc(), STRIPPED);
+    let mut exchange = Exchange::of(&rt, rt.alloc(), DECIDED_ALIKE);
     let mut first = waiting(&rt, &exchange, CLIENT);
     let mut alike = waiting(&rt, &exchange, CLIENT + 1);
     let mut other = waiting(&rt, &exchange, CLIENT + 2);
@@ -184,7 +197,7 @@ fn what_was_decided_serves_those_alike(rt: HostRuntime) {
 /// A client to which something waits to be sent has what was decided for another in rows of its own: each set has two owners more.
 #[test]
 fn what_was_decided_serves_one_that_has_not_been_told_all(rt: HostRuntime) {
-    let mut exchange = Exchange::of(&rt, rt.alloc(), STRIPPED);
+    let mut exchange = Exchange::of(&rt, rt.alloc(), DECIDED_ALIKE);
     let mut first = waiting(&rt, &exchange, CLIENT);
     let mut alike = waiting(&rt, &exchange, CLIENT + 1);
     let mut other = waiting(&rt, &exchange, CLIENT + 2);
