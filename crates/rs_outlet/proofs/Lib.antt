@@ -1,4 +1,5 @@
-pub mod Message
+pub mod Answered
+mod Message
 pub mod Decided
 pub mod Pending
 mod OneOf

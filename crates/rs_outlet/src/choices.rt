@@ -4,6 +4,7 @@
 ghost use Rattle.std.specs.Prelude.{◌≡◌, Some, None, ℕ, Option, [], IfSome, Contains};
 ghost use Rattle.rs_outlet.specs.Decided.Choices.{MayKeep};
 
+use crate::by_number::first_from;
 use crate::stripped::Stripped;
 use crate::waiting::Sorting;
 use std::alloc::Global;
@@ -31,16 +32,6 @@ pub(crate) struct Choices {
     pub(crate) stripped: Stripped,
     /// How what waits was put in order.
     pub(crate) sorting: Sorting,
-}
-
-/// The first place from one on whose choice is for no lesser number; where there is none, the end.
-fn first_from(kept: &[Choice], from: usize, number: u32) -> usize {
-    for at in from..kept.len() {
-        if kept[at].number >= number {
-            return at;
-        }
-    }
-    kept.len()
 }
 
 impl Choices {

@@ -126,7 +126,7 @@ fn is_alone_of_its_as(sources: &Sources<'_>, holders: Holders<'_>) -> bool
 }
 
 /// Whether the client has no route for the prefix of a number.
-fn is_absent(sources: &Sources<'_>, number: u32) -> bool
+pub(crate) fn is_absent(sources: &Sources<'_>, number: u32) -> bool
     ensures { IsTrue result → (p : Prefix) → number_of sources.now.ins.now p ≡ Some number → held_of sources.now.ins.now sources.now.client p ≡ None }
 {
     sources.ins.noted_at(sources.client, number).is_none()

@@ -6,7 +6,7 @@ ghost use Rattle.rs_outlet.specs.Decided.News.{AreFrom, change_of, row_of, seen}
 
 use crate::changes::Change;
 use crate::news::News;
-use rs_rows::{Block, ROWS};
+use rs_rows::{Block, ROWS, lie_together};
 use std::alloc::{AllocError, Global};
 use std::sync::Arc;
 
@@ -20,7 +20,8 @@ pub(crate) struct Filled {
     ghost numbers: { AreFrom (place * 16) news.items },
 }
 
-/// A share of news that fill a block, and one of the block, for a client's rows.
+/// A share of news that fill a block, and one of the block, for a client's rows: these take it where nothing can be refused
+/// any more.
 #[derive(Drop)]
 pub(crate) struct Whole {
     pub(crate) filled: Arc<Filled>,
@@ -35,7 +36,7 @@ impl Filled {
         ensures { IfOk result (λ made. IfSome made (λ filled. map seen (map change_of filled.news.items) ≡ map seen changes.now)) }
     {
         let place = changes[0].number / ROWS as u32;
-        if changes[ROWS - 1].number / ROWS as u32 != place {
+        if !lie_together(changes[0].number, changes[ROWS - 1].number) {
             return Ok(None);
         }
         let mut block = Block::free();

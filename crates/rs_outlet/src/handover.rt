@@ -1,14 +1,13 @@
 //! What the turn of one outlet hands over to the next: choices, and what was decided, as far as that serves another client.
 
-ghost use Rattle.std.specs.Prelude.{nat_eq, IfOk, IfSome};
+ghost use Rattle.std.specs.Prelude.{◌≡◌, [], nat_eq, Some, IfOk, IfSome};
 ghost use Rattle.std.specs.List.{IsDistinct};
 ghost use Rattle.std.specs.Map.{keys_of};
-ghost use Rattle.rs_outlet.specs.Inside.{AreDecided};
 ghost use Rattle.rs_adjin.specs.declared.adj_ins.AdjIns.{AdjIns};
 ghost use Rattle.rs_outlet.specs.Decided.Due.{Held, due_to};
 ghost use Rattle.rs_outlet.specs.Decided.HeldBy.{held_by, AreOfOneServer};
 ghost use Rattle.rs_outlet.specs.Decided.Plans.{IsPlanned};
-ghost use Rattle.rs_outlet.specs.Decided.Precedents.{IsHandover};
+ghost use Rattle.rs_outlet.specs.Decided.Precedents.{AreDueAlike, IsHandover};
 ghost use Rattle.rs_outlet.specs.Decided.Touching.{is_numbered_in};
 
 use crate::answers::Speech;
@@ -16,10 +15,12 @@ use crate::changes::Change;
 use crate::choices::Choices;
 use crate::deciding::Sources;
 use crate::plan::Plan;
-use crate::precedent::Precedent;
+use crate::precedent::{Precedent, known_to};
+use crate::serving::news_to;
 use crate::table::Rows;
 use crate::turn::decide_touched;
 use rs_octets::Prefix;
+use rs_policy::judges_alike;
 use std::alloc::{AllocError, Global};
 
 /// With how many prefixes what was decided is kept: fewer are decided as quickly.
@@ -43,39 +44,58 @@ impl Handover {
         }
     }
 
-    /// Keeps what was decided for a client at these prefixes, where it can serve others and nothing that was decided at the same
-    /// ones is kept, and answers whether it did. Where memory is refused, it is not kept.
+    /// Room for what a client's turn teaches, where it can serve others and is of more prefixes than what is kept. Where memory
+    /// is refused, there is none.
+    fn room_to_learn(
+        &self,
+        alloc: Global,
+        sources: &Sources<'_>,
+        count: usize,
+    ) -> Option<Vec<Change>>
+        requires server { AreOfOneServer sources.now }
+        ensures { IfSome result (λ learned. learned.items ≡ []) }
+    {
+        let most = match &self.precedent {
+            None => 0,
+            Some(kept) => kept.count(),
+        };
+        if count < FEWEST
+            || count <= most
+            || !judges_alike(sources.config, sources.client, sources.client)
+        {
+            return None;
+        }
+        Vec::with_capacity(alloc, count).ok()
+    }
+
+    /// Keeps what was learned at so many prefixes, and answers whether it did. Where memory is refused, it is not kept.
     fn keep(
         &mut self,
         alloc: Global,
         sources: &Sources<'_>,
         speech: Speech,
         rows: &Rows,
-        touched: &[(u32, Prefix)],
-        changes: &[Change],
+        count: usize,
+        learned: Option<Vec<Change>>,
     ) -> bool
         requires server { AreOfOneServer sources.now }
         requires handover { IsHandover (held_by sources.now) sources.now.ins.now self.old }
-        requires decided { AreDecided sources.now.ins.now (due_to (held_by sources.now) sources.now.client speech) rows.now.rows.items (is_numbered_in touched.now) changes.now }
+        requires learned { IfSome learned (λ learned. AreDueAlike (held_by sources.now) sources.now.ins.now sources.now.client speech learned.items) }
         ensures { IsHandover (held_by sources.now) sources.now.ins.now self.new }
     {
-        if touched.len() < FEWEST {
+        let Some(learned) = learned else {
             return false;
-        }
-        if let Some(precedent) = &self.precedent
-            && precedent.is_of(touched)
-        {
-            return false;
-        }
-        let Ok(Some(made)) = Precedent::of(alloc, sources, speech, rows, touched, changes) else {
+        };
+        let known = known_to(&self.precedent, sources, speech);
+        let Ok(made) = Precedent::of(alloc, sources, speech, rows, count, learned, known) else {
             return false;
         };
         self.precedent = Some(made);
         true
     }
 
-    /// What is decided at these prefixes by what was decided before, if that tells.
-    fn plan_for(
+    /// What is news to a client at these prefixes, if all of it is known and nothing waits.
+    fn shared_plan(
         &self,
         alloc: Global,
         sources: &Sources<'_>,
@@ -86,16 +106,21 @@ impl Handover {
     ) -> Result<Option<Plan>, AllocError>
         requires server { AreOfOneServer sources.now }
         requires handover { IsHandover (held_by sources.now) sources.now.ins.now self.now }
+        requires once { IsDistinct nat_eq (keys_of touched.now) }
         ensures { IfOk result (λ found. IfSome found (IsPlanned sources.now.ins.now (due_to (held_by sources.now) sources.now.client speech) rows.now.rows.items (is_numbered_in touched.now) idle)) }
     {
-        match &self.precedent {
+        if !idle {
+            return Ok(None);
+        }
+        let known = known_to(&self.precedent, sources, speech);
+        match news_to(alloc, sources, rows, touched, known)? {
             None => Ok(None),
-            Some(precedent) => precedent.plan_for(alloc, sources, speech, rows, touched, idle),
+            Some(pieces) => Ok(Some(Plan::Shared(pieces))),
         }
     }
 
-    /// Decides what was touched by itself, by what was decided before where that tells. The client whose decision is kept for
-    /// others has it as they will. Where it is `idle`, nothing waits.
+    /// Decides what was touched by itself, by what was decided before where that tells. Where it is `idle`, nothing waits, and what
+    /// is news to several clients is carried out for all of them alike.
     pub(crate) fn decide(
         &mut self,
         alloc: Global,
@@ -111,12 +136,23 @@ impl Handover {
         ensures decided { IfOk result (IsPlanned sources.now.ins.now (due_to (held_by sources.now) sources.now.client speech) rows.now.rows.items (is_numbered_in touched.now) idle) }
         ensures handover { IsHandover (held_by sources.now) sources.now.ins.now self.new }
     {
-        if let Some(plan) = self.plan_for(alloc, sources, speech, rows, touched, idle)? {
+        if let Some(plan) = self.shared_plan(alloc, sources, speech, rows, touched, idle)? {
             return Ok(plan);
         }
-        let changes = decide_touched(alloc, sources, speech, rows, touched, &mut self.choices)?;
-        if self.keep(alloc, sources, speech, rows, touched, &changes)
-            && let Some(plan) = self.plan_for(alloc, sources, speech, rows, touched, idle)?
+        let mut learned = self.room_to_learn(alloc, sources, touched.len());
+        let known = known_to(&self.precedent, sources, speech);
+        let changes = decide_touched(
+            alloc,
+            sources,
+            speech,
+            rows,
+            touched,
+            known,
+            &mut learned,
+            &mut self.choices,
+        )?;
+        if self.keep(alloc, sources, speech, rows, touched.len(), learned)
+            && let Some(plan) = self.shared_plan(alloc, sources, speech, rows, touched, idle)?
         {
             return Ok(plan);
         }

@@ -10,7 +10,8 @@
 //! - `touched` is what the next turn decides; `turn` decides it, by `deciding`, which says what is
 //!   due at one prefix, and `chosen`, which says whose route is the best; `memo` is what it leaves to the
 //!   next prefix, `choices` and `stripped` to the outlets that turn next, as `precedent` does: what was decided for a client serves
-//!   others. All of that is handed from one to the next by `handover`.
+//!   others. By that it is `known` what is due to them, and what is news to them is taken as it is (`serving`). All of that is
+//!   handed from one to the next by `handover`, in lists that go `by_number`.
 //! - What a turn changes is a `plan`: `changes` of the client's own, or what is `news` to several clients in `pieces`, of which
 //!   those that are `filled` are a block of rows. It is put into `rows`, the Loc-RIB by number in a `table` of blocks that outlets
 //!   share, and into `waiting`, what is to be sent: slots in two `parts`, of which `merging` makes one. `marking` makes all that
@@ -23,6 +24,7 @@
 #![tactic(auto)]
 
 mod answers;
+mod by_number;
 mod changes;
 mod choices;
 mod chosen;
@@ -30,6 +32,7 @@ mod deciding;
 mod fill;
 mod filled;
 mod handover;
+mod known;
 pub mod laws;
 mod memo;
 mod news;
@@ -42,6 +45,7 @@ mod queries;
 mod routes;
 mod rows;
 mod sending;
+mod serving;
 mod sharing;
 mod sizes;
 mod stripped;

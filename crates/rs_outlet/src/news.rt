@@ -1,6 +1,6 @@
 //! News: a route that is due to a client where nothing was due or told.
 
-ghost use Rattle.std.specs.Prelude.{◌≡◌, IfOk, IfSome};
+ghost use Rattle.std.specs.Prelude.{◌≡◌, None, IfOk, IfSome};
 ghost use Rattle.rs_outlet.specs.Decided.News.{change_of, seen, slot_of};
 
 use crate::changes::Change;
@@ -32,7 +32,8 @@ impl News {
 
     /// The news that a change is, where something is due.
     pub(crate) fn of(change: &Change) -> Result<Option<News>, AllocError>
-        ensures { IfOk result (λ made. IfSome made (λ news. seen (change_of news) ≡ seen change.now)) }
+        ensures same { IfOk result (λ made. IfSome made (λ news. seen (change_of news) ≡ seen change.now)) }
+        ensures none { IfOk result (λ made. made ≡ None → change.now.due ≡ None) }
     {
         match &change.due {
             None => Ok(None),

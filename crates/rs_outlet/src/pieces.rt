@@ -29,18 +29,8 @@ pub(crate) enum Piece {
 }
 
 impl Piece {
-    /// The same once more.
-    fn copy(&self) -> Result<Piece, AllocError>
-        ensures { IfOk result (λ copy. map seen (map change_of (news_of copy)) ≡ map seen (map change_of (news_of self.now))) }
-    {
-        match self {
-            Piece::One(news) => Ok(Piece::One(news.copy()?)),
-            Piece::Block(whole) => Ok(Piece::Block(whole.copy()?)),
-        }
-    }
-
     /// How many news it has.
-    fn len(&self) -> usize
+    pub(crate) fn len(&self) -> usize
         ensures { result ≡ length (news_of self.now) }
     {
         match self {
@@ -48,90 +38,6 @@ impl Piece {
             Piece::Block(whole) => whole.filled.news.len(),
         }
     }
-}
-
-/// The first sixteen of these changes, if they fill a block.
-fn fill_first(alloc: Global, changes: &[Change]) -> Result<Option<Filled>, AllocError>
-    ensures many { IfOk result (λ made. IfSome made (λ filled. 16 ≤ length changes.now)) }
-    ensures same { IfOk result (λ made. IfSome made (λ filled. map seen (map change_of filled.news.items) ≡ map seen (take 16 changes.now))) }
-{
-    if changes.len() < ROWS {
-        return Ok(None);
-    }
-    Filled::of(alloc, &changes[..ROWS])
-}
-
-/// A piece of the first of these changes: of sixteen, if they fill a block; none where nothing is due.
-fn first_piece(alloc: Global, changes: &[Change]) -> Result<Option<Piece>, AllocError>
-    requires { 0 < length changes.now }
-    ensures within { IfOk result (λ made. IfSome made (λ piece. length (news_of piece) ≤ length changes.now)) }
-    ensures same { IfOk result (λ made. IfSome made (λ piece. map seen (map change_of (news_of piece)) ≡ map seen (take (length (news_of piece)) changes.now))) }
-{
-    if let Some(filled) = fill_first(alloc, changes)? {
-        return Ok(Some(Piece::Block(Whole::of(alloc, filled)?)));
-    }
-    match News::of(&changes[0])? {
-        None => Ok(None),
-        Some(news) => Ok(Some(Piece::One(news))),
-    }
-}
-
-/// The news that changes are, if something is due at each.
-pub(crate) fn pieces_of(alloc: Global, changes: &[Change]) -> Result<Option<Vec<Piece>>, AllocError>
-    ensures { IfOk result (λ made. IfSome made (λ pieces. map seen (changes_in pieces.items) ≡ map seen changes.now)) }
-{
-    let mut pieces = Vec::new(alloc);
-    let mut rest = changes;
-    while rest.len() > 0 {
-        let Some(piece) = first_piece(alloc, rest)? else {
-            return Ok(None);
-        };
-        rest = &rest[piece.len()..];
-        pieces.push(piece)?;
-    }
-    Ok(Some(pieces))
-}
-
-/// The same pieces once more.
-pub(crate) fn copied(alloc: Global, pieces: &[Piece]) -> Result<Vec<Piece>, AllocError>
-    ensures { IfOk result (λ copies. map seen (changes_in copies.items) ≡ map seen (changes_in pieces.now)) }
-{
-    let mut copies = Vec::with_capacity(alloc, pieces.len())?;
-    for piece in pieces {
-        copies.push(piece.copy()?)?;
-    }
-    Ok(copies)
-}
-
-/// Lists the changes that news are.
-fn list_changes(news: &[News], changes: &mut Vec<Change>) -> Result<(), AllocError>
-    ensures { OnOk result (map seen changes.new.items ≡ map seen changes.old.items ++ map seen (map change_of news.now)) }
-{
-    for one in news {
-        changes.push(one.change()?)?;
-    }
-    Ok(())
-}
-
-/// Lists the changes that a piece is.
-fn list_piece(piece: &Piece, changes: &mut Vec<Change>) -> Result<(), AllocError>
-    ensures { OnOk result (map seen changes.new.items ≡ map seen changes.old.items ++ map seen (map change_of (news_of piece.now))) }
-{
-    match piece {
-        Piece::One(news) => Ok(changes.push(news.change()?)?),
-        Piece::Block(whole) => list_changes(&whole.filled.news, changes),
-    }
-}
-
-/// The changes that pieces are.
-pub(crate) fn single_changes(alloc: Global, pieces: &[Piece]) -> Result<Vec<Change>, AllocError>
-    ensures { IfOk result (λ changes. map seen changes.items ≡ map seen (changes_in pieces.now)) }
-{
-    let mut changes = Vec::new(alloc);
-    for piece in pieces {
-        list_piece(piece, &mut changes)?;
-    }
-    Ok(changes)
 }
 
 /// How many news pieces have; none where they are too many to be counted.

@@ -42,8 +42,8 @@ impl Plan {
         ensures { result ≡ is_none self.now }
     {
         match self {
-            Plan::Own(changes) => changes.len() == 0,
-            Plan::Shared(pieces) => pieces.len() == 0,
+            Plan::Own(changes) => changes.is_empty(),
+            Plan::Shared(pieces) => pieces.is_empty(),
         }
     }
 

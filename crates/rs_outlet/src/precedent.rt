@@ -1,164 +1,150 @@
-//! What was decided for one client serves those that are decided alike: where they hold none of the prefixes either, and have
-//! nothing in their rows, the same is due to them.
+//! What was decided for one client, kept for those that are decided alike.
 
-ghost use Rattle.std.specs.Prelude.{◌≡◌, ◌<◌, ℕ, List, None, Some, true, length, map, IsTrue, IfOk, IfSome};
-ghost use Rattle.rs_outlet.specs.declared.changes.Change.{Change};
-ghost use Rattle.std.specs.Map.{keys_of};
-ghost use Rattle.rs_octets.specs.Prefixes.{Prefix};
-ghost use Rattle.rs_adjin.specs.AdjIns.{number_of};
-ghost use Rattle.rs_rows.specs.Rows.{row_at};
-ghost use Rattle.rs_outlet.specs.Inside.{AreDecided};
-ghost use Rattle.rs_outlet.specs.Decided.Due.{due_to};
+ghost use Rattle.std.specs.Prelude.{◌≡◌, ◌<◌, ℕ, Some, length, map, take, IfOk, IfSome, IsTrue};
+ghost use Rattle.std.specs.List.{AllByRecursion};
+ghost use Rattle.rs_adjin.specs.declared.adj_ins.AdjIns.{AdjIns};
+ghost use Rattle.rs_outlet.specs.declared.answers.Speech.{Speech};
+ghost use Rattle.rs_outlet.specs.Decided.Choices.{AreJudgedAlike};
+ghost use Rattle.rs_outlet.specs.Decided.Due.{Held};
 ghost use Rattle.rs_outlet.specs.Decided.HeldBy.{held_by, AreOfOneServer};
-ghost use Rattle.rs_outlet.specs.Decided.News.{seen};
-ghost use Rattle.rs_outlet.specs.Decided.Plans.{IsPlanned, changes_in};
-ghost use Rattle.rs_outlet.specs.Decided.Precedents.{AreNewTo, IsPrecedent};
-ghost use Rattle.rs_outlet.specs.Decided.Touching.{is_numbered_in};
+ghost use Rattle.rs_outlet.specs.Decided.News.{change_of, seen};
+ghost use Rattle.rs_outlet.specs.Decided.Plans.{news_within};
+ghost use Rattle.rs_outlet.specs.Decided.Precedents.{AreDueAlike, AreKnown, IsPrecedent};
+ghost use Rattle.rs_outlet.specs.declared.precedent.Precedent.{Precedent};
 
 use crate::answers::Speech;
+use crate::by_number::ByNumber;
 use crate::changes::Change;
 use crate::deciding::Sources;
-use crate::pieces::{Piece, copied, pieces_of, single_changes};
-use crate::plan::Plan;
+use crate::filled::{Filled, Whole};
+use crate::known::Known;
 use crate::table::Rows;
-use rs_octets::Prefix;
 use rs_policy::judges_alike;
+use rs_rows::{ROWS, lie_together};
 use std::alloc::{AllocError, Global};
 
-/// What was decided for a client at prefixes of which it held none, while its rows had nothing there: news of each prefix that
-/// is due to it.
+/// What was decided for a client: what is due where it holds no route, which is due to each that is decided alike and holds none
+/// either.
 #[derive(Drop)]
 pub(crate) struct Precedent {
     client: usize,
     speech: Speech,
-    /// What was touched.
-    touched: Vec<(u32, Prefix)>,
-    pieces: Vec<Piece>,
+    /// At how many prefixes was decided.
+    count: usize,
+    changes: Vec<Change>,
+    wholes: Vec<Whole>,
 }
 
-/// Whether a client does not hold the prefix of a number, and its row has nothing.
-fn is_new_at(sources: &Sources<'_>, rows: &Rows, number: u32) -> bool
-    ensures free { IsTrue result → row_at rows.now.rows.items number ≡ None }
-    ensures absent { IsTrue result → (p : Prefix) → number_of sources.now.ins.now p ≡ Some number → (held_by sources.now).held sources.now.client p ≡ None }
+/// The first sixteen of these changes, if they fill a block, of which the first row is free: so it may serve.
+fn fill_first(alloc: Global, rows: &Rows, changes: &[Change]) -> Result<Option<Filled>, AllocError>
+    ensures { IfOk result (λ made. IfSome made (λ filled. map seen (map change_of filled.news.items) ≡ map seen (take 16 changes.now))) }
 {
-    rows.get(number).is_none() && sources.ins.noted_at(sources.client, number).is_none()
+    if changes.len() < ROWS {
+        return Ok(None);
+    }
+    let first = changes[0].number;
+    if first as usize % ROWS != 0 || rows.get(first).is_some() {
+        return Ok(None);
+    }
+    Filled::of(alloc, &changes[..ROWS])
 }
 
-/// Whether a client holds none of these prefixes, and its rows have nothing there.
-fn are_new(sources: &Sources<'_>, rows: &Rows, touched: &[(u32, Prefix)]) -> bool
-    ensures { IsTrue result → AreNewTo (held_by sources.now) sources.now.ins.now sources.now.client rows.now.rows.items (is_numbered_in touched.now) }
+/// The block that the first sixteen of these changes fill: one that is there already, if it is of the same place.
+fn first_whole(
+    alloc: Global,
+    rows: &Rows,
+    changes: &[Change],
+    known: &mut Known<'_>,
+) -> Result<Option<Whole>, AllocError>
+    requires { 0 < length changes.now }
+    ensures due { (t : Held) (ins : AdjIns) (c : ℕ) (speech : Speech) → AreKnown t ins c speech known.old.changes.now known.old.wholes.now → AreDueAlike t ins c speech changes.now → IfOk result (λ found. IfSome found (λ whole. AreDueAlike t ins c speech (map change_of (news_within whole)))) }
+    ensures changes { known.new.changes.now ≡ known.old.changes.now }
+    ensures wholes { known.new.wholes.now ≡ known.old.wholes.now }
 {
-    for (number, _) in touched {
-        if !is_new_at(sources, rows, *number) {
-            return false;
+    let first = changes[0].number;
+    if let Some(whole) = known.find_whole(first)
+        && lie_together(whole.number(), first)
+    {
+        return Ok(Some(whole.copy()?));
+    }
+    match fill_first(alloc, rows, changes)? {
+        None => Ok(None),
+        Some(filled) => Ok(Some(Whole::of(alloc, filled)?)),
+    }
+}
+
+/// The blocks that these changes fill.
+fn wholes_of(
+    alloc: Global,
+    rows: &Rows,
+    changes: &[Change],
+    mut known: Known<'_>,
+) -> Result<Vec<Whole>, AllocError>
+    ensures { (t : Held) (ins : AdjIns) (c : ℕ) (speech : Speech) → AreKnown t ins c speech known.entry.changes.now known.entry.wholes.now → AreDueAlike t ins c speech changes.now → IfOk result (λ wholes. AllByRecursion (λ w. AreDueAlike t ins c speech (map change_of (news_within w))) wholes.items) }
+{
+    let mut wholes = Vec::new(alloc);
+    for index in 0..changes.len() {
+        if let Some(whole) = first_whole(alloc, rows, &changes[index..], &mut known)? {
+            wholes.push(whole)?;
         }
     }
-    true
-}
-
-/// Whether two lists have the same numbers, one after the other.
-fn have_same_numbers(one: &[(u32, Prefix)], other: &[(u32, Prefix)]) -> bool
-    ensures { IsTrue result → keys_of one.now ≡ keys_of other.now }
-{
-    if one.len() != other.len() {
-        return false;
-    }
-    for index in 0..one.len() {
-        if one[index].0 != other[index].0 {
-            return false;
-        }
-    }
-    true
+    Ok(wholes)
 }
 
 impl Precedent {
-    /// What was decided for a client at these prefixes, where it can serve others.
+    /// This is due alike, of what was decided for a client at so many prefixes. What was known before has its blocks already.
     pub(crate) fn of(
         alloc: Global,
         sources: &Sources<'_>,
         speech: Speech,
         rows: &Rows,
-        touched: &[(u32, Prefix)],
-        changes: &[Change],
-    ) -> Result<Option<Precedent>, AllocError>
+        count: usize,
+        changes: Vec<Change>,
+        known: Known<'_>,
+    ) -> Result<Precedent, AllocError>
+        requires known { AreKnown (held_by sources.now) sources.now.ins.now sources.now.client speech known.changes.now known.wholes.now }
         requires client { sources.now.client < length sources.now.config.now.clients }
-        requires decided { AreDecided sources.now.ins.now (due_to (held_by sources.now) sources.now.client speech) rows.now.rows.items (is_numbered_in touched.now) changes.now }
-        ensures { IfOk result (λ made. IfSome made (IsPrecedent (held_by sources.now) sources.now.ins.now)) }
+        requires due { AreDueAlike (held_by sources.now) sources.now.ins.now sources.now.client speech changes.items }
+        ensures { IfOk result (IsPrecedent (held_by sources.now) sources.now.ins.now) }
     {
-        if !judges_alike(sources.config, sources.client, sources.client)
-            || !are_new(sources, rows, touched)
-        {
-            return Ok(None);
-        }
-        let Some(pieces) = pieces_of(alloc, changes)? else {
-            return Ok(None);
-        };
-        Ok(Some(Precedent {
+        let wholes = wholes_of(alloc, rows, &changes, known)?;
+        Ok(Precedent {
             client: sources.client,
             speech,
-            touched: touched.to_vec(alloc)?,
-            pieces,
-        }))
+            count,
+            changes,
+            wholes,
+        })
     }
 
-    /// Whether its client is spoken to so.
-    fn is_spoken(&self, speech: Speech) -> bool
-        ensures { IsTrue result → self.now.speech ≡ speech }
-    {
-        self.speech == speech
+    /// At how many prefixes was decided.
+    pub(crate) fn count(&self) -> usize {
+        self.count
     }
 
-    /// Whether it is of these prefixes.
-    pub(crate) fn is_of(&self, touched: &[(u32, Prefix)]) -> bool
-        ensures { IsTrue result → keys_of self.now.touched.items ≡ keys_of touched.now }
+    /// Whether it is of a client that is decided as this one is.
+    fn is_alike(&self, sources: &Sources<'_>, speech: Speech) -> bool
+        requires own { self.now.client < length sources.now.config.now.clients }
+        requires client { sources.now.client < length sources.now.config.now.clients }
+        ensures speech { IsTrue result → self.now.speech ≡ speech }
+        ensures rules { IsTrue result → AreJudgedAlike (held_by sources.now) self.now.client sources.now.client }
     {
-        have_same_numbers(&self.touched, touched)
+        self.speech == speech && judges_alike(sources.config, self.client, sources.client)
     }
+}
 
-    /// Whether the same is decided for a client at these prefixes: it is decided alike, and its rows have nothing there.
-    fn serves(
-        &self,
-        sources: &Sources<'_>,
-        speech: Speech,
-        rows: &Rows,
-        touched: &[(u32, Prefix)],
-    ) -> bool
-        requires server { AreOfOneServer sources.now }
-        requires precedent { IsPrecedent (held_by sources.now) sources.now.ins.now self.now }
-        ensures decided { IsTrue result → (changes : List Change) → map seen changes ≡ map seen (changes_in self.now.pieces.items) → AreDecided sources.now.ins.now (due_to (held_by sources.now) sources.now.client speech) rows.now.rows.items (is_numbered_in touched.now) changes }
-        ensures free { IsTrue result → (n : ℕ) → is_numbered_in touched.now n ≡ true → row_at rows.now.rows.items n ≡ None }
-    {
-        if !self.is_spoken(speech)
-            || !self.is_of(touched)
-            || !judges_alike(sources.config, self.client, sources.client)
-        {
-            return false;
-        }
-        are_new(sources, rows, touched)
-    }
-
-    /// What is decided for a client at these prefixes, where that follows from it. Where it is `idle`, so that nothing waits,
-    /// it takes the pieces.
-    pub(crate) fn plan_for(
-        &self,
-        alloc: Global,
-        sources: &Sources<'_>,
-        speech: Speech,
-        rows: &Rows,
-        touched: &[(u32, Prefix)],
-        idle: bool,
-    ) -> Result<Option<Plan>, AllocError>
-        requires server { AreOfOneServer sources.now }
-        requires precedent { IsPrecedent (held_by sources.now) sources.now.ins.now self.now }
-        ensures { IfOk result (λ found. IfSome found (IsPlanned sources.now.ins.now (due_to (held_by sources.now) sources.now.client speech) rows.now.rows.items (is_numbered_in touched.now) idle)) }
-    {
-        if !self.serves(sources, speech, rows, touched) {
-            return Ok(None);
-        }
-        if idle {
-            Ok(Some(Plan::Shared(copied(alloc, &self.pieces)?)))
-        } else {
-            Ok(Some(Plan::Own(single_changes(alloc, &self.pieces)?)))
-        }
+/// What is known of what is due to a client.
+pub(crate) fn known_to<'a>(
+    precedent: &'a Option<Precedent>,
+    sources: &Sources<'_>,
+    speech: Speech,
+) -> Known<'a>
+    requires server { AreOfOneServer sources.now }
+    requires precedent { (p : Precedent) → precedent.now ≡ Some p → IsPrecedent (held_by sources.now) sources.now.ins.now p }
+    ensures { AreKnown (held_by sources.now) sources.now.ins.now sources.now.client speech result.changes.now result.wholes.now }
+{
+    match precedent {
+        Some(it) if it.is_alike(sources, speech) => Known::of(&it.changes, &it.wholes),
+        _ => Known::of(&[], &[]),
     }
 }

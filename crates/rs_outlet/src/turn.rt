@@ -1,11 +1,14 @@
 //! A turn: what is touched is decided anew, and what the client was not told so waits.
 
-ghost use Rattle.std.specs.Prelude.{◌≡◌, Bool, List, Option, None, Some, true, false, nat_eq, nat_lt, count_by, map, option_map, length, if◌then◌else◌, IsTrue, IfOk, OnOk, OnErr, All};
+ghost use Rattle.std.specs.Prelude.{◌≡◌, Bool, List, Option, None, Some, true, false, nat_eq, nat_lt, count_by, map, option_map, length, if◌then◌else◌, IsTrue, IfOk, IfSome, OnOk, OnErr, All};
+ghost use Rattle.std.specs.Arc.{arc_value};
 ghost use Rattle.std.specs.List.{IsDistinct};
 ghost use Rattle.std.specs.Map.{keys_of};
 ghost use Rattle.std.specs.FinMap as fin;
 ghost use Rattle.std.specs.FinSet as set;
+ghost use Rattle.rs_attrs.specs.Meaning.{Attribute};
 ghost use Rattle.rs_octets.specs.Prefixes.{Prefix};
+ghost use Rattle.rs_adjin.specs.declared.adj_ins.AdjIns.{AdjIns};
 ghost use Rattle.rs_adjin.specs.AdjIns.{number_of, prefix_of, ListsHolders};
 ghost use Rattle.rs_outlet.specs.Views.{AreNumbered, HaveNumbers, IsCount, IsNumberOf, IsOneOf, Prefixes, WaitsAreExact, is_touched, is_whole};
 ghost use Rattle.rs_outlet.specs.Decided.Turns.{IsCurrent};
@@ -20,14 +23,16 @@ ghost use Rattle.rs_outlet.specs.Decided.Touching.{is_number_touched, is_numbere
 ghost use Rattle.rs_outlet.specs.Decided.Choices.{AreChoices};
 ghost use Rattle.rs_outlet.specs.Decided.Memo.{IsMemo};
 ghost use Rattle.rs_outlet.specs.Decided.Plans.{IsPlanned};
-ghost use Rattle.rs_outlet.specs.Decided.Precedents.{IsHandover};
+ghost use Rattle.rs_outlet.specs.Decided.Precedents.{AreDueAlike, AreKnown, IsHandover};
 ghost use Rattle.rs_outlet.specs.Decided.Passing.{attributes_passed};
 
 use crate::answers::{Last, Speech, Turned};
 use crate::changes::Change;
 use crate::choices::Choices;
+use crate::chosen::is_absent;
 use crate::deciding::{Draft, Passed, Sources, decide};
 use crate::handover::Handover;
+use crate::known::{Known, learn};
 use crate::outlet::Outlet;
 use crate::plan::Plan;
 use crate::table::Rows;
@@ -66,6 +71,34 @@ fn is_own(row: Option<&Lent<'_>>, prefix: &Prefix) -> bool
     }
 }
 
+/// Lists a prefix where something else is due than the row of its number has. It is refused where that has another prefix.
+fn list_change(
+    row: Option<&Lent<'_>>,
+    number: u32,
+    prefix: Prefix,
+    due: Option<Passed<'_>>,
+    changes: &mut Vec<Change>,
+) -> Result<(), AllocError>
+    ensures { (ins : AdjIns) (due_at : Prefix → Option (List Attribute)) (rows : List (Option Row)) → number_of ins prefix ≡ Some number → row_at rows number ≡ option_map (λ row. lent_row row.now) row.entry → option_map attributes_passed due.entry ≡ due_at prefix → OnOk result (IsDecidedAt ins due_at rows number changes.old.items changes.new.items) }
+{
+    if is_due(row, due.as_ref()) {
+        return Ok(());
+    }
+    if !is_own(row, &prefix) {
+        return Err(AllocError);
+    }
+    let due = match due {
+        None => None,
+        Some(passed) => Some(passed.own()?),
+    };
+    changes.push(Change {
+        number,
+        prefix,
+        due,
+    })?;
+    Ok(())
+}
+
 /// Decides a prefix that these clients hold, and lists it where something else is due than the row of its number has. It is
 /// refused where that has another prefix.
 fn decide_one<'a>(
@@ -89,44 +122,86 @@ fn decide_one<'a>(
     ensures memo { OnOk result (IsMemo sources.now.config.now sources.now.client draft.new.memo) }
 {
     let due = decide(sources, speech, number, &prefix, holders, draft)?;
-    if is_due(row, due.as_ref()) {
-        return Ok(());
+    list_change(row, number, prefix, due, changes)
+}
+
+/// Lists what is due at a number, as it is known: where the row has something else.
+fn list_known(rows: &Rows, known: &Change, changes: &mut Vec<Change>) -> Result<(), AllocError>
+    ensures { (ins : AdjIns) (due_at : Prefix → Option (List Attribute)) → number_of ins known.now.prefix ≡ Some known.now.number → option_map arc_value known.now.due ≡ due_at known.now.prefix → OnOk result (IsDecidedAt ins due_at rows.now.rows.items known.now.number changes.old.items changes.new.items) }
+{
+    list_change(
+        rows.get(known.number).as_ref(),
+        known.number,
+        known.prefix,
+        known.due.as_ref().map(Passed::Whole),
+        changes,
+    )
+}
+
+/// Decides the prefix of a number, as it is known, or by the tables.
+fn decide_next<'a>(
+    sources: &Sources<'a>,
+    speech: Speech,
+    rows: &Rows,
+    number: u32,
+    known: &mut Known<'_>,
+    draft: &mut Draft<'a>,
+    changes: &mut Vec<Change>,
+) -> Result<(), AllocError>
+    requires server { AreOfOneServer sources.now }
+    requires known { AreKnown (held_by sources.now) sources.now.ins.now sources.now.client speech known.old.changes.now known.old.wholes.now }
+    requires choices { AreChoices (held_by sources.now) sources.now.ins.now draft.old.choices.kept.items }
+    requires memo { IsMemo sources.now.config.now sources.now.client draft.old.memo }
+    ensures changes { OnOk result (IsDecidedAt sources.now.ins.now (due_to (held_by sources.now) sources.now.client speech) rows.now.rows.items number changes.old.items changes.new.items) }
+    ensures known { AreKnown (held_by sources.now) sources.now.ins.now sources.now.client speech known.new.changes.now known.new.wholes.now }
+    ensures choices { OnOk result (AreChoices (held_by sources.now) sources.now.ins.now draft.new.choices.kept.items) }
+    ensures memo { OnOk result (IsMemo sources.now.config.now sources.now.client draft.new.memo) }
+{
+    if let Some(change) = known.find(number)
+        && is_absent(sources, number)
+    {
+        return list_known(rows, change, changes);
     }
-    if !is_own(row, &prefix) {
-        return Err(AllocError);
-    }
-    let due = match due {
-        None => None,
-        Some(passed) => Some(passed.own()?),
-    };
-    changes.push(Change {
-        number,
-        prefix,
-        due,
-    })?;
+    decide_number(sources, speech, rows, number, draft, changes)?;
     Ok(())
 }
 
 /// Decides what was touched by itself: at each number the prefix that the tables have there. That is the
-/// prefix that was touched as long as it keeps its number, and no condition asks for that here.
+/// prefix that was touched as long as it keeps its number, and no condition asks for that here. What serves others is
+/// learned, as long as there is memory for it.
 pub(crate) fn decide_touched(
     alloc: Global,
     sources: &Sources<'_>,
     speech: Speech,
     rows: &Rows,
     touched: &[(u32, Prefix)],
+    mut known: Known<'_>,
+    learned: &mut Option<Vec<Change>>,
     choices: &mut Choices,
 ) -> Result<Vec<Change>, AllocError>
     requires server { AreOfOneServer sources.now }
+    requires known { AreKnown (held_by sources.now) sources.now.ins.now sources.now.client speech known.changes.now known.wholes.now }
+    requires learned { IfSome learned.old (λ learned. AreDueAlike (held_by sources.now) sources.now.ins.now sources.now.client speech learned.items) }
     requires choices { AreChoices (held_by sources.now) sources.now.ins.now choices.old.kept.items }
     requires once { IsDistinct nat_eq (keys_of touched.now) }
     ensures decided { IfOk result (λ changes. AreDecided sources.now.ins.now (due_to (held_by sources.now) sources.now.client speech) rows.now.rows.items (is_numbered_in touched.now) changes.items) }
+    ensures learned { IfSome learned.new (λ learned. AreDueAlike (held_by sources.now) sources.now.ins.now sources.now.client speech learned.items) }
     ensures choices { AreChoices (held_by sources.now) sources.now.ins.now choices.new.kept.items }
 {
     let mut draft = Draft::from_choices(alloc, choices);
     let mut changes = Vec::with_capacity(alloc, touched.len())?;
     for (number, _) in touched {
-        decide_number(sources, speech, rows, *number, &mut draft, &mut changes)?;
+        let before = changes.len();
+        decide_next(
+            sources,
+            speech,
+            rows,
+            *number,
+            &mut known,
+            &mut draft,
+            &mut changes,
+        )?;
+        learn(sources, rows, *number, changes.get(before), learned);
     }
     *choices = draft.into_choices();
     Ok(changes)

@@ -1,9 +1,12 @@
--- What was decided for a client that held none of the prefixes is decided for another one that is judged alike and holds none either.
-use Rattle.std.proofs.Common.{◌≡◌, ◌<◌, ◌+◌, ◌≤◌, ◌∙◌, ℕ, zero, suc, Bool, true, ◌||◌, nat_eq, List, [], ◌∷◌, Option, Some, None, length, map, option_map, refl, sym, ap, subst, arith}
-use Rattle.std.specs.Prelude.{option_and_then}
+-- What was decided for a client that holds no route at a prefix is decided for each that is judged alike and holds none there either.
+use Rattle.std.proofs.Common.{◌≡◌, ◌<◌, ◌+◌, ◌≤◌, ◌∙◌, ℕ, zero, suc, Bool, true, false, ◌||◌, inl, inr, nat_eq, get_or, List, [], ◌∷◌, ◌++◌, Option, Some, None, length, map, take, option_map, refl, sym, ap, subst, arith}
+use Rattle.std.specs.Prelude.{drop, option_and_then, slice_get, unwrap_or}
+use Rattle.std.specs.Map.{keys_of}
+use Rattle.std.specs.Arc.{arc_value}
 use Rattle.std.specs.List.{AllByRecursion, IsDistinct, list_any}
 use Rattle.std.proofs.lemmas.Bool.Decides.{nat_tests}
-use Rattle.std.proofs.lemmas.Bool.{or_right}
+use Rattle.std.proofs.lemmas.List.{append_assoc, append-nil}
+use Rattle.std.proofs.lemmas.Map.Keys.{IsDistinct-head, IsDistinct-tail}
 use Rattle.std.proofs.lemmas.List.Elements.{All-from_recursion}
 use Rattle.rs_octets.specs.Prefixes.{Prefix}
 use Rattle.rs_attrs.specs.Meaning.{Attribute}
@@ -15,10 +18,16 @@ use Rattle.rs_decision.specs.declared.rank.Rank.{Rank}
 use Rattle.rs_rows.specs.Rows.{Row, row_at}
 use Rattle.rs_outlet.specs.declared.answers.Speech.{Speech}
 use Rattle.rs_outlet.specs.declared.changes.Change.{Change}
-use Rattle.rs_outlet.specs.Inside.{AreDecided, AreDue, AreOwn, ArePlaced, IsOwn, numbers_of, shown}
+use Rattle.rs_outlet.specs.Inside.{AreDecided, IsChangeAt, IsDecidedAt, IsOwn, attributes_at, numbers_of, shown}
 use Rattle.rs_outlet.specs.Decided.Choices.{AreJudgedAlike}
 use Rattle.rs_outlet.specs.Decided.Due.{Held, due_to, holders_at, if_fits, passed_on, ranks_among, route_from}
-use Rattle.rs_outlet.specs.Decided.News.{seen}
+use Rattle.rs_outlet.specs.declared.filled.Whole.{Whole}
+use Rattle.rs_outlet.specs.declared.news.News.{News}
+use Rattle.rs_outlet.specs.Decided.News.{AreFree, change_of, seen}
+use Rattle.rs_outlet.specs.Decided.Plans.{news_within}
+use Rattle.rs_outlet.specs.Decided.Precedents.{AreDecidedAt, AreDueAlike, AreKnown, AreUnheld, IsDueAlike}
+use Rattle.rs_outlet.proofs.Decided.Decisions.{none_decided, one_more_decided}
+use Rattle.rs_outlet.proofs.Decided.Numbering.{number_once}
 use Rattle.rs_outlet.proofs.Decided.Shared.{known_choice, ranks_alike}
 
 -- ---- what is due to both
@@ -77,58 +86,191 @@ all_back : (P : Seen → Type 0) (cs : List Change) → AllByRecursion P (map se
 all_back P [] all = tt
 all_back P (c ∷ cs) all = (all.0, all_back P cs all.1)
 
-all_seen : (P : Seen → Type 0) (cs ds : List Change) → map seen ds ≡ map seen cs → AllByRecursion (λ c. P (seen c)) cs → AllByRecursion (λ c. P (seen c)) ds
+pub all_seen : (P : Seen → Type 0) (cs ds : List Change) → map seen ds ≡ map seen cs → AllByRecursion (λ c. P (seen c)) cs → AllByRecursion (λ c. P (seen c)) ds
 all_seen P cs ds same all = all_back P ds (subst (AllByRecursion P) (sym same) (all_to P cs all))
 
-numbers_seen : (cs : List Change) → map (λ (s : Seen). s.0.0) (map seen cs) ≡ numbers_of cs
-numbers_seen [] = refl
-numbers_seen (c ∷ cs) = ap (λ ns. c.number ∷ ns) (numbers_seen cs)
+-- ---- what is due alike
 
-same_numbers : (cs ds : List Change) → map seen ds ≡ map seen cs → numbers_of ds ≡ numbers_of cs
-same_numbers cs ds same = sym (numbers_seen ds) ∙ ap (map (λ (s : Seen). s.0.0)) same ∙ numbers_seen cs
+pub alike_itself : (t : Held) (c : ℕ) → AreJudgedAlike t c c
+alike_itself t c = λ from p m known. refl
 
--- ---- decided for one client, and so for another
+due_alike_too : (t : Held) (ins : AdjIns) (c d : ℕ) (speech : Speech) (it : Seen) → AreJudgedAlike t c d → IsDueAlike t ins c speech it → IsDueAlike t ins d speech it
+due_alike_too t ins c d speech it alike h = record {
+  placed = h.placed;
+  due = λ e too none. h.due e (λ from p m known. alike from p m known ∙ too from p m known) none;
+}
 
-each_in : (is_in : ℕ → Bool) (cs : List Change) → ((n : ℕ) → list_any (nat_eq n) (numbers_of cs) ≡ true → is_in n ≡ true) → AllByRecursion (λ c. is_in c.number ≡ true) cs
-each_in is_in [] within = tt
-each_in is_in (c ∷ cs) within = (
-  within c.number (let itself : nat_eq c.number c.number ≡ true = grind (arith, nat_tests) in ap (λ b. b || list_any (nat_eq c.number) (numbers_of cs)) itself),
-  each_in is_in cs (λ n there. within n (or_right (nat_eq n c.number) (list_any (nat_eq n) (numbers_of cs)) there)),
+are_due_too : (t : Held) (ins : AdjIns) (c d : ℕ) (speech : Speech) (cs : List Change) → AreJudgedAlike t c d → AreDueAlike t ins c speech cs → AreDueAlike t ins d speech cs
+are_due_too t ins c d speech [] alike h = tt
+are_due_too t ins c d speech (x ∷ cs) alike h = (due_alike_too t ins c d speech (seen x) alike h.0, are_due_too t ins c d speech cs alike h.1)
+
+wholes_too : (t : Held) (ins : AdjIns) (c d : ℕ) (speech : Speech) (ws : List Whole) → AreJudgedAlike t c d → AllByRecursion (λ w. AreDueAlike t ins c speech (map change_of (news_within w))) ws
+    → AllByRecursion (λ w. AreDueAlike t ins d speech (map change_of (news_within w))) ws
+wholes_too t ins c d speech [] alike h = tt
+wholes_too t ins c d speech (w ∷ ws) alike h = (are_due_too t ins c d speech (map change_of (news_within w)) alike h.0, wholes_too t ins c d speech ws alike h.1)
+
+-- what is known for one is known for another that is judged alike
+pub known_too : (t : Held) (ins : AdjIns) (c d : ℕ) (speech : Speech) (cs : List Change) (ws : List Whole) → AreJudgedAlike t c d → AreKnown t ins c speech cs ws → AreKnown t ins d speech cs ws
+known_too t ins c d speech cs ws alike h = record {
+  changes = are_due_too t ins c d speech cs alike h.changes;
+  wholes = wholes_too t ins c d speech ws alike h.wholes;
+}
+
+-- what is due to a client that holds nothing is due alike
+pub learned_here : (t : Held) (ins : AdjIns) (c : ℕ) (speech : Speech) (it : Seen) → t.count ≡ length t.settings.clients → number_of ins it.0.1 ≡ Some it.0.0 → t.held c it.0.1 ≡ None → it.1 ≡ due_to t c speech it.0.1 → IsDueAlike t ins c speech it
+learned_here t ins c speech it count placed none is = record {
+  placed = placed;
+  due = λ d alike nor. sym (due_alike t c d speech it.0.1 count alike none nor) ∙ sym is;
+}
+
+pub due_more : (t : Held) (ins : AdjIns) (c : ℕ) (speech : Speech) (cs : List Change) (x : Change) → AreDueAlike t ins c speech cs → IsDueAlike t ins c speech (seen x) → AreDueAlike t ins c speech (cs ++ x ∷ [])
+due_more t ins c speech [] x h is = (is, tt)
+due_more t ins c speech (y ∷ cs) x h is = (h.0, due_more t ins c speech cs x h.1 is)
+
+pub due_behind : (t : Held) (ins : AdjIns) (c : ℕ) (speech : Speech) (n : ℕ) (cs : List Change) → AreDueAlike t ins c speech cs → AreDueAlike t ins c speech (drop n cs)
+due_behind t ins c speech zero cs h = h
+due_behind t ins c speech (suc n) [] h = tt
+due_behind t ins c speech (suc n) (x ∷ cs) h = due_behind t ins c speech n cs h.1
+
+pub due_first : (t : Held) (ins : AdjIns) (c : ℕ) (speech : Speech) (n : ℕ) (cs : List Change) → AreDueAlike t ins c speech cs → AreDueAlike t ins c speech (take n cs)
+due_first t ins c speech zero cs h = tt
+due_first t ins c speech (suc n) [] h = tt
+due_first t ins c speech (suc n) (x ∷ cs) h = (h.0, due_first t ins c speech n cs h.1)
+
+-- ---- one number after the other
+
+or_move : (a b c : Bool) → (a || (b || c)) ≡ ((b || a) || c)
+or_move true true c = refl
+or_move true false c = refl
+or_move false true c = refl
+or_move false false c = refl
+
+or_nothing : (a : Bool) → (a || false) ≡ a
+or_nothing true = refl
+or_nothing false = refl
+
+module _ (ins : AdjIns) (due_at : Prefix → Option (List Attribute)) (rows : List (Option Row)) where
+  pub decided_join : (ns ms : List ℕ) (a b c : List Change) → AreDecidedAt ins due_at rows ns a b → AreDecidedAt ins due_at rows ms b c → AreDecidedAt ins due_at rows (ns ++ ms) a c
+  decided_join [] ms a b c first second = subst (λ x. AreDecidedAt ins due_at rows ms x c) first second
+  decided_join (n ∷ ns) ms a b c first second = (first.0, first.1, decided_join ns ms first.0 b c first.2 second)
+
+  pub decided_news : (ns : List News) (old : List Change) → AllByRecursion (λ (n : News). IsChangeAt ins due_at rows n.number (change_of n)) ns → AreDecidedAt ins due_at rows (numbers_of (map change_of ns)) old (old ++ map change_of ns)
+  decided_news [] old each = append-nil old
+  decided_news (n ∷ ns) old each = (
+    old ++ change_of n ∷ [],
+    inr (change_of n, each.0, refl),
+    subst (λ cs. AreDecidedAt ins due_at rows (numbers_of (map change_of ns)) (old ++ change_of n ∷ []) cs) (append_assoc old (change_of n ∷ []) (map change_of ns)) (decided_news ns (old ++ change_of n ∷ []) each.1),
+  )
+
+  others : (d : ℕ → Bool) (n : ℕ) (ks : List ℕ) → AllByRecursion (λ k. nat_eq n k ≡ false) ks → AllByRecursion (λ k. d k ≡ false) ks → AllByRecursion (λ k. (nat_eq k n || d k) ≡ false) ks
+  others d n [] apart off = tt
+  others d n (k ∷ ks) apart off = (
+    (let h = apart.0 in let e : nat_eq k n ≡ false = grind (arith, nat_tests, h) in ap (λ b. b || d k) e ∙ off.0),
+    others d n ks apart.1 off.1,
+  )
+
+  decided_more : (ns : List ℕ) (d : ℕ → Bool) (old new : List Change) → IsDistinct nat_eq ns → AllByRecursion (λ k. d k ≡ false) ns → AreDecided ins due_at rows d old → AreDecidedAt ins due_at rows ns old new
+      → AreDecided ins due_at rows (λ m. list_any (nat_eq m) ns || d m) new
+  decided_more [] d old new once off h are = subst (AreDecided ins due_at rows d) (sym are) h
+  decided_more (n ∷ ns) d old new once off h are =
+      let one = one_more_decided ins due_at rows d (λ m. nat_eq m n || d m) n old are.0 h off.0 are.1 (λ m. refl) in
+      subst (λ f. AreDecided ins due_at rows f new) (λ i m. or_move (list_any (nat_eq m) ns) (nat_eq m n) (d m) i)
+      (decided_more ns (λ m. nat_eq m n || d m) are.0 new (IsDistinct-tail nat_eq n ns once) (others d n ns (IsDistinct-head nat_eq n ns once) off.1) one are.2)
+
+  none_off : (ns : List ℕ) → AllByRecursion (λ k. false ≡ false) ns
+  none_off [] = tt
+  none_off (n ∷ ns) = (refl, none_off ns)
+
+  -- what was decided at these numbers, one after the other, is decided
+  pub decided_all : (ns : List ℕ) (cs : List Change) → IsDistinct nat_eq ns → AreDecidedAt ins due_at rows ns [] cs → AreDecided ins due_at rows (λ m. list_any (nat_eq m) ns) cs
+  decided_all ns cs once are =
+      subst (λ f. AreDecided ins due_at rows f cs) (λ i m. or_nothing (list_any (nat_eq m) ns) i)
+      (decided_more ns (λ m. false) [] cs once (none_off ns) (none_decided ins due_at rows (λ m. false) [] refl (λ m. refl)) are)
+
+free_is_own : (rows : List (Option Row)) (n : ℕ) (p : Prefix) → row_at rows n ≡ None → IsOwn (row_at rows n) p
+free_is_own rows n p free = λ r there. absurd (let f : None ≡ Some r = sym free ∙ there in (cc f))
+
+-- a route that is due alike, to a client that holds none, whose row is free
+change_here : (t : Held) (ins : AdjIns) (c : ℕ) (speech : Speech) (rows : List (Option Row)) (n : ℕ) (x : Change) → IsDueAlike t ins c speech (seen x) → x.number ≡ n → ((p : Prefix) → number_of ins p ≡ Some n → t.held c p ≡ None) → row_at rows n ≡ None
+    → IsChangeAt ins (due_to t c speech) rows n x
+change_here t ins c speech rows n x h is unheld free =
+    let placed : number_of ins x.prefix ≡ Some n = h.placed ∙ ap (λ k. Some k) is in
+    record {
+      number = is;
+      placed = placed;
+      due = sym (h.due c (alike_itself t c) (unheld x.prefix placed));
+      own = free_is_own rows n x.prefix free;
+    }
+
+pub news_here : (t : Held) (ins : AdjIns) (c : ℕ) (speech : Speech) (rows : List (Option Row)) (ns : List News) → AreDueAlike t ins c speech (map change_of ns) → AreUnheld t ins c (numbers_of (map change_of ns)) → AreFree rows ns
+    → AllByRecursion (λ (n : News). IsChangeAt ins (due_to t c speech) rows n.number (change_of n)) ns
+news_here t ins c speech rows [] h unheld free = tt
+news_here t ins c speech rows (n ∷ ns) h unheld free = (change_here t ins c speech rows n.number (change_of n) h.0 refl unheld.0 free.0, news_here t ins c speech rows ns h.1 unheld.1 free.1)
+
+-- nothing is due alike, and a free row has it
+nothing_here : (t : Held) (ins : AdjIns) (c : ℕ) (speech : Speech) (rows : List (Option Row)) (n : ℕ) (x : Change) → IsDueAlike t ins c speech (seen x) → x.number ≡ n → x.due ≡ None → ((p : Prefix) → number_of ins p ≡ Some n → t.held c p ≡ None) → row_at rows n ≡ None
+    → (p : Prefix) → number_of ins p ≡ Some n → attributes_at rows n ≡ due_to t c speech p
+nothing_here t ins c speech rows n x h is none unheld free p at =
+    let placed : number_of ins x.prefix ≡ Some n = h.placed ∙ ap (λ k. Some k) is in
+    let same : p ≡ x.prefix = number_once ins p x.prefix n at placed in
+    ap shown free ∙ sym (ap (option_map arc_value) none) ∙ sym (h.due c (alike_itself t c) (unheld x.prefix placed)) ∙ ap (due_to t c speech) (sym same)
+
+pub one_here : (t : Held) (ins : AdjIns) (c : ℕ) (speech : Speech) (rows : List (Option Row)) (n : ℕ) (x : Change) (news : News) → IsDueAlike t ins c speech (seen x) → x.number ≡ n → seen (change_of news) ≡ seen x
+    → ((p : Prefix) → number_of ins p ≡ Some n → t.held c p ≡ None) → row_at rows n ≡ None → (old new : List Change) → new ≡ old ++ change_of news ∷ [] → AreDecidedAt ins (due_to t c speech) rows (n ∷ []) old new
+one_here t ins c speech rows n x news h is same unheld free old new more = (
+  new,
+  inr (change_of news, change_here t ins c speech rows n (change_of news) (subst (IsDueAlike t ins c speech) (sym same) h) (ap (λ (s : Seen). s.0.0) same ∙ is) unheld free, more),
+  refl,
 )
 
-module _ (ins : AdjIns) (due_one due_other : Prefix → Option (List Attribute)) (one other : List (Option Row)) (is_in is_also : ℕ → Bool)
-    (free : (n : ℕ) → is_in n ≡ true → row_at one n ≡ None) (free_too : (n : ℕ) → is_in n ≡ true → row_at other n ≡ None)
-    (same_due : (n : ℕ) → is_in n ≡ true → (p : Prefix) → number_of ins p ≡ Some n → due_one p ≡ due_other p) (same_in : (n : ℕ) → is_also n ≡ is_in n) where
-  due_too : (cs : List Change) → AllByRecursion (λ c. is_in c.number ≡ true) cs → ArePlaced cs ins → AreDue due_one cs → AreDue due_other cs
-  due_too [] each placed due = tt
-  due_too (c ∷ cs) each placed due = (due.0 ∙ same_due c.number each.0 c.prefix placed.0, due_too cs each.1 placed.1 due.1)
+pub none_here : (t : Held) (ins : AdjIns) (c : ℕ) (speech : Speech) (rows : List (Option Row)) (n : ℕ) (x : Change) → IsDueAlike t ins c speech (seen x) → x.number ≡ n → x.due ≡ None → ((p : Prefix) → number_of ins p ≡ Some n → t.held c p ≡ None) → row_at rows n ≡ None
+    → (old : List Change) → AreDecidedAt ins (due_to t c speech) rows (n ∷ []) old old
+none_here t ins c speech rows n x h is none unheld free old = (old, inl (refl, nothing_here t ins c speech rows n x h is none unheld free), refl)
 
-  own_too : (cs : List Change) → AllByRecursion (λ c. is_in c.number ≡ true) cs → AreOwn cs other
-  own_too [] each = tt
-  own_too (c ∷ cs) each = (λ r there. absurd (let f : None ≡ Some r = sym (free_too c.number each.0) ∙ there in (cc f)), own_too cs each.1)
+-- the numbers of the first entries
+abbrev no_entries : List (ℕ × Prefix)
+no_entries = []
 
-  decided_too : (cs : List Change) → AreDecided ins due_one one is_in cs → AreDecided ins due_other other is_also cs
-  decided_too cs h = record {
-    placed = h.placed;
-    due = due_too cs (each_in is_in cs h.within) h.placed h.due;
-    own = own_too cs (each_in is_in cs h.within);
-    once = h.once;
-    within = λ n found. same_in n ∙ h.within n found;
-    all = λ n there none p at.
-        let in_it : is_in n ≡ true = sym (same_in n) ∙ there in
-        ap shown (free_too n in_it) ∙ sym (ap shown (free n in_it)) ∙ h.all n in_it none p at ∙ same_due n in_it p at;
-  }
+pub keys_one : (es : List (ℕ × Prefix)) (e : ℕ × Prefix) → 0 < length es → e ≡ get_or es 0 e → keys_of (take 1 es) ≡ e.0 ∷ []
+keys_one [] e some is = absurd (omega (arith, some))
+keys_one (x ∷ es) e some is = ap (λ (y : ℕ × Prefix). y.0 ∷ []) (sym is)
 
-  -- the same changes are decided where the rows of the same numbers are free, and the same is due
-  pub decided_alike : (cs ds : List Change) → map seen ds ≡ map seen cs → AreDecided ins due_one one is_in cs → AreDecided ins due_other other is_also ds
-  decided_alike cs ds same h =
-      let g = decided_too cs h in
-      let numbers = same_numbers cs ds same in
-      record {
-        placed = all_seen (λ s. number_of ins s.0.1 ≡ Some s.0.0) cs ds same g.placed;
-        due = all_seen (λ s. s.1 ≡ due_other s.0.1) cs ds same g.due;
-        own = all_seen (λ s. IsOwn (row_at other s.0.0) s.0.1) cs ds same g.own;
-        once = subst (IsDistinct nat_eq) (sym numbers) g.once;
-        within = λ n found. g.within n (ap (list_any (nat_eq n)) (sym numbers) ∙ found);
-        all = λ n there none p at. g.all n there (ap (list_any (nat_eq n)) (sym numbers) ∙ none) p at;
-      }
+taken_none : (k : ℕ) → keys_of (take k no_entries) ≡ []
+taken_none zero = refl
+taken_none (suc k) = refl
+
+pub keys_all : (es : List (ℕ × Prefix)) (k : ℕ) → length es ≤ k → keys_of (take k es) ≡ keys_of es
+keys_all [] k all = taken_none k
+keys_all (x ∷ es) zero all = absurd (omega (arith, all))
+keys_all (x ∷ es) (suc k) all = ap (λ ks. x.0 ∷ ks) (keys_all es k (omega (arith, all)))
+
+pub keys_more : (es : List (ℕ × Prefix)) (a b : ℕ) → keys_of (take (a + b) es) ≡ keys_of (take a es) ++ keys_of (take b (drop a es))
+keys_more es zero b = ap (λ k. keys_of (take k es)) (let e : zero + b ≡ b = omega arith in e)
+keys_more [] (suc a) b = taken_none (suc a + b) ∙ sym (taken_none b)
+keys_more (x ∷ es) (suc a) b = ap (λ k. keys_of (take k (x ∷ es))) (let e : suc a + b ≡ suc (a + b) = omega arith in e) ∙ ap (λ ks. x.0 ∷ ks) (keys_more es a b)
+
+-- what was just decided, by the change that it was
+got_end : (cs : List Change) → slice_get cs (length cs) ≡ None
+got_end [] = refl
+got_end (c ∷ cs) = got_end cs
+
+got_last : (cs : List Change) (c : Change) → slice_get (cs ++ c ∷ []) (length cs) ≡ Some c
+got_last [] c = refl
+got_last (x ∷ cs) c = got_last cs c
+
+pub decided_so : (ins : AdjIns) (due_at : Prefix → Option (List Attribute)) (rows : List (Option Row)) (n : ℕ) (old new : List Change) (o : Option Change) → IsDecidedAt ins due_at rows n old new → o ≡ slice_get new (length old)
+    → (p : Prefix) → number_of ins p ≡ Some n → unwrap_or (option_map (λ (c : Change). option_map arc_value c.due) o) (attributes_at rows n) ≡ due_at p
+decided_so ins due_at rows n old new o (inl is) there p at =
+    let none : o ≡ None = there ∙ ap (λ cs. slice_get cs (length old)) is.0 ∙ got_end old in
+    ap (λ o. unwrap_or (option_map (λ (c : Change). option_map arc_value c.due) o) (attributes_at rows n)) none ∙ is.1 p at
+decided_so ins due_at rows n old new o (inr is) there p at =
+    let some : o ≡ Some is.0 = there ∙ ap (λ cs. slice_get cs (length old)) is.2 ∙ got_last old is.0 in
+    ap (λ o. unwrap_or (option_map (λ (c : Change). option_map arc_value c.due) o) (attributes_at rows n)) some ∙ is.1.due ∙ ap due_at (number_once ins is.0.prefix p n is.1.placed at)
+
+pub known_is : (t : Held) (ins : AdjIns) (c : ℕ) (speech more : Speech) (cs ds : List Change) (ws xs : List Whole) → more ≡ speech → ds ≡ cs → xs ≡ ws → AreKnown t ins c speech cs ws → AreKnown t ins c more ds xs
+known_is t ins c speech more cs ds ws xs spoken changes wholes h = subst (λ s. AreKnown t ins c s ds xs) (sym spoken) (subst (λ cs. AreKnown t ins c speech cs xs) (sym changes) (subst (AreKnown t ins c speech cs) (sym wholes) h))
+
+pub wholes_push : (t : Held) (ins : AdjIns) (c : ℕ) (speech : Speech) (ws : List Whole) (w : Whole) → AllByRecursion (λ w. AreDueAlike t ins c speech (map change_of (news_within w))) ws → AreDueAlike t ins c speech (map change_of (news_within w))
+    → AllByRecursion (λ w. AreDueAlike t ins c speech (map change_of (news_within w))) (ws ++ w ∷ [])
+wholes_push t ins c speech [] w h is = (is, tt)
+wholes_push t ins c speech (x ∷ ws) w h is = (h.0, wholes_push t ins c speech ws w h.1 is)

@@ -73,7 +73,7 @@ written_apart (n ∷ ns) rows m none =
     written_apart ns (slice_set rows n.number (row_of n)) m both.1 ∙ other_row rows n.number (row_of n) m (differ m n.number both.0)
 
 -- those that are left are free still
-pub free_rest : (n : News) (ns : List News) (rows : List (Option Row)) → AllByRecursion (λ k. nat_eq n.number k ≡ false) (numbers ns) → AreFree rows ns → AreFree (slice_set rows n.number (row_of n)) ns
+free_rest : (n : News) (ns : List News) (rows : List (Option Row)) → AllByRecursion (λ k. nat_eq n.number k ≡ false) (numbers ns) → AreFree rows ns → AreFree (slice_set rows n.number (row_of n)) ns
 free_rest n [] rows apart free = tt
 free_rest n (d ∷ ns) rows apart free = (
   other_row rows n.number (row_of n) d.number (differ d.number n.number (swapped n.number d.number apart.0)) ∙ free.0,

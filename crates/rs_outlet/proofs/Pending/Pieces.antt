@@ -1,12 +1,11 @@
 -- Pieces: news at all numbers of a block, one after the other, and what pieces have in all.
 use Rattle.std.proofs.Common.{◌≡◌, ◌<◌, ◌≤◌, ◌+◌, ◌-◌, ◌*◌, ℕ, zero, suc, Bool, true, false, ◌||◌, Option, Some, None, List, [], ◌∷◌, ◌++◌, get_or, length, map, slice_set, refl, sym, ap, ◌∙◌, subst, arith}
-use Rattle.std.specs.Prelude.{IfSome, drop, nat_eq, replicate, take}
+use Rattle.std.specs.Prelude.{IfSome, nat_eq, replicate, take}
 use mathlib.Core.Bool.{true≢false}
 use Rattle.std.specs.Arc.{arc_value}
 use Rattle.std.specs.List.{AllByRecursion, IsDistinct, list_any}
 use Rattle.std.proofs.lemmas.Bool.Decides.{nat_tests}
-use Rattle.std.proofs.lemmas.Bool.{or_right}
-use Rattle.std.proofs.lemmas.List.{append_assoc, append-nil, length-drop, length-map, map-append, take-append-drop}
+use Rattle.std.proofs.lemmas.List.{append_assoc, append-nil, length-map, map-append}
 use Rattle.std.proofs.lemmas.Option.{same_Some}
 use Rattle.std.proofs.lemmas.Map.Keys.{IsDistinct-head, IsDistinct-tail}
 use Rattle.rs_rows.specs.Rows.{IsPrepared, Listed, Row, row_at, written_from}
@@ -20,7 +19,6 @@ use Rattle.rs_outlet.specs.Decided.News.{AreFree, AreFrom, change_of, row_of, se
 use Rattle.rs_outlet.specs.declared.changes.Change.{Change}
 use Rattle.rs_outlet.specs.Decided.Plans.{HasRows, IsFor, IsOutside, changes_in, news_in, news_of}
 use Rattle.rs_outlet.specs.Inside.{AreBelow, numbers_of}
-use Rattle.rs_outlet.proofs.Message.Ranges.{take_rest}
 use Rattle.rs_outlet.proofs.Pending.News.{HaveARow, written_apart}
 
 -- ---- news at numbers one after the other
@@ -124,15 +122,11 @@ pub news_push : (ps : List Piece) (p : Piece) → news_in (ps ++ p ∷ []) ≡ n
 news_push [] p = append-nil (news_of p)
 news_push (q ∷ ps) p = ap (λ ns. news_of q ++ ns) (news_push ps p) ∙ sym (append_assoc (news_of q) (news_in ps) (news_of p))
 
-pub some_news : (p : Piece) → 0 < length (news_of p)
-some_news (piece.One n) = omega arith
-some_news (piece.Block w) = let full = sixteen (arc_value w.filled) in omega (arith, full)
-
-pub below_front : (ns ms : List News) (most : ℕ) → AreBelow (map change_of (ns ++ ms)) most → AreBelow (map change_of ns) most
+below_front : (ns ms : List News) (most : ℕ) → AreBelow (map change_of (ns ++ ms)) most → AreBelow (map change_of ns) most
 below_front [] ms most below = tt
 below_front (n ∷ ns) ms most below = (below.0, below_front ns ms most below.1)
 
-pub below_rest : (ns ms : List News) (most : ℕ) → AreBelow (map change_of (ns ++ ms)) most → AreBelow (map change_of ms) most
+below_rest : (ns ms : List News) (most : ℕ) → AreBelow (map change_of (ns ++ ms)) most → AreBelow (map change_of ms) most
 below_rest [] ms most below = below
 below_rest (n ∷ ns) ms most below = below_rest ns ms most below.1
 
@@ -147,6 +141,10 @@ free_front (n ∷ ns) ms rows free = (free.0, free_front ns ms rows free.1)
 pub free_behind : (ns ms : List News) (rows : List (Option Row)) → AreFree rows (ns ++ ms) → AreFree rows ms
 free_behind [] ms rows free = free
 free_behind (n ∷ ns) ms rows free = free_behind ns ms rows free.1
+
+pub free_join : (ns ms : List News) (rows : List (Option Row)) → AreFree rows ns → AreFree rows ms → AreFree rows (ns ++ ms)
+free_join [] ms rows free more = more
+free_join (n ∷ ns) ms rows free more = (free.0, free_join ns ms rows free.1 more)
 
 abbrev numbers : List News → List ℕ
 numbers ns = numbers_of (map change_of ns)
@@ -169,14 +167,6 @@ free_same (n ∷ ns) rows rows' same free = (same n.number ∙ free.0, free_same
 pub fitting_same : (it : Plan) (rows rows' : List (Option Row)) (idle still : Bool) → ((n : ℕ) → row_at rows' n ≡ row_at rows n) → still ≡ idle → IsFor rows idle it → IsFor rows' still it
 fitting_same (plan.Own changes) rows rows' idle still same is fits = tt
 fitting_same (plan.Shared pieces) rows rows' idle still same is fits = (is ∙ fits.0, free_same (news_in pieces.items) rows rows' same fits.1)
-
--- news at numbers that pass a test have free rows, where all rows are free that do
-pub free_within : (rows : List (Option Row)) (is_in : ℕ → Bool) → ((n : ℕ) → is_in n ≡ true → row_at rows n ≡ None) → (ns : List News) → ((n : ℕ) → list_any (nat_eq n) (numbers ns) ≡ true → is_in n ≡ true) → AreFree rows ns
-free_within rows is_in free [] within = tt
-free_within rows is_in free (n ∷ ns) within = (
-  free n.number (within n.number (let itself : nat_eq n.number n.number ≡ true = grind (arith, nat_tests) in ap (λ b. b || list_any (nat_eq n.number) (numbers ns)) itself)),
-  free_within rows is_in free ns (λ m found. within m (or_right (nat_eq m n.number) (list_any (nat_eq m) (numbers ns)) found)),
-)
 
 -- ---- a piece carried out
 
@@ -266,15 +256,6 @@ taken_news (x ∷ ps) (suc i) p below is = ap (λ ns. news_of x ++ ns) (taken_ne
 pub news_next : (ps : List Piece) (i : ℕ) (p : Piece) → i < length ps → p ≡ get_or ps i p → news_in (take (i + 1) ps) ≡ news_in (take i ps) ++ news_of p
 news_next ps i p below is = ap (λ k. news_in (take k ps)) (let e : i + 1 ≡ suc i = omega arith in e) ∙ taken_news ps i p below is
 
-pub seen_both : (ns ms : List News) → map seen (map change_of (ns ++ ms)) ≡ map seen (map change_of ns) ++ map seen (map change_of ms)
-seen_both ns ms = ap (map seen) (map-append change_of ns ms) ∙ map-append seen (map change_of ns) (map change_of ms)
-
--- as much as before, and a piece more
-pub seen_next : (cs : List Change) (ms : List News) (ps : List Piece) (i : ℕ) (p : Piece) → map seen cs ≡ map seen (changes_in (take i ps)) → i < length ps → p ≡ get_or ps i p → (all : List Change) → map seen all ≡ map seen cs ++ map seen (map change_of ms)
-    → map seen (map change_of ms) ≡ map seen (map change_of (news_of p)) → map seen all ≡ map seen (changes_in (take (i + 1) ps))
-seen_next cs ms ps i p so_far below is all more same =
-    more ∙ (λ j. so_far j ++ same j) ∙ sym (seen_both (news_in (take i ps)) (news_of p)) ∙ ap (λ ns. map seen (map change_of ns)) (sym (news_next ps i p below is))
-
 pub below_at : (most : ℕ) (ps : List Piece) (i : ℕ) (p : Piece) → i < length ps → p ≡ get_or ps i p → AreBelow (changes_in ps) most → AreBelow (map change_of (news_of p)) most
 below_at most [] i p less is below = absurd (omega (arith, less))
 below_at most (x ∷ ps) zero p less is below = subst (λ (q : Piece). AreBelow (map change_of (news_of q)) most) (sym is) (below_front (news_of x) (news_in ps) most below)
@@ -288,16 +269,3 @@ all_next rows (x ∷ ps) (suc i) p less is all has = (all.0, all_next rows ps i 
 -- one piece more has its rows
 pub has_next : (rows : Listed) (ps : List Piece) (i : ℕ) (p : Piece) → i < length ps → p ≡ get_or ps i p → AllByRecursion (HasRows rows) (take i ps) → HasRows rows p → AllByRecursion (HasRows rows) (take (i + 1) ps)
 has_next rows ps i p less is all has = subst (λ k. AllByRecursion (HasRows rows) (take k ps)) (let e : suc i ≡ i + 1 = omega arith in e) (all_next rows ps i p less is all has)
-
--- the piece of the first changes, and those that are left
-pub front_listed : (ps : List Piece) (p : Piece) (k : ℕ) (rest all : List Change) → k ≡ length (news_of p) → map seen (map change_of (news_of p)) ≡ map seen (take (length (news_of p)) rest) → map seen (changes_in ps) ++ map seen rest ≡ map seen all
-    → map seen (changes_in (ps ++ p ∷ [])) ++ map seen (take (length rest - k) (drop k rest)) ≡ map seen all
-front_listed ps p k rest all is same so_far =
-    (λ j. (ap (λ ns. map seen (map change_of ns)) (news_push ps p) ∙ seen_both (news_in ps) (news_of p)) j ++ map seen (take_rest k rest j))
-    ∙ append_assoc (map seen (changes_in ps)) (map seen (map change_of (news_of p))) (map seen (drop k rest))
-    ∙ ap (λ cs. map seen (changes_in ps) ++ cs)
-    ((λ j. (same ∙ ap (λ n. map seen (take n rest)) (sym is)) j ++ map seen (drop k rest)) ∙ sym (map-append seen (take k rest) (drop k rest)) ∙ ap (map seen) (take-append-drop k rest))
-    ∙ so_far
-
-pub fewer_left : (p : Piece) (k : ℕ) (rest : List Change) → k ≡ length (news_of p) → length (news_of p) ≤ length rest → length (take (length rest - k) (drop k rest)) < length rest
-fewer_left p k rest is within = let some = some_news p in omega (arith, some, is, within, ap length (take_rest k rest), length-drop k rest)

@@ -1,29 +1,55 @@
 -- What was decided for a client, which serves those that are decided alike.
-use Rattle.std.specs.Prelude.{◌≡◌, ◌<◌, ℕ, Bool, true, List, [], length, Option, Some, None}
+use Rattle.std.specs.Prelude.{◌≡◌, ◌<◌, ℕ, List, [], ◌∷◌, length, map, option_map, unwrap_or, Option, Some, None}
+use Rattle.std.specs.Arc.{arc_value}
+use Rattle.std.specs.List.{AllByRecursion}
 use Rattle.rs_octets.specs.Prefixes.{Prefix}
+use Rattle.rs_attrs.specs.Meaning.{Attribute}
 use Rattle.rs_adjin.specs.AdjIns.{number_of}
 use Rattle.rs_adjin.specs.declared.adj_ins.AdjIns.{AdjIns}
-use Rattle.rs_rows.specs.Rows.{Row, row_at}
+use Rattle.rs_rows.specs.Rows.{Row}
+use Rattle.rs_outlet.specs.declared.answers.Speech.{Speech}
+use Rattle.rs_outlet.specs.declared.changes.Change.{Change}
+use Rattle.rs_outlet.specs.declared.filled.Whole.{Whole}
 use Rattle.rs_outlet.specs.declared.precedent.Precedent.{Precedent}
 use Rattle.rs_outlet.specs.declared.handover.Handover.{Handover}
-use Rattle.rs_outlet.specs.Inside.{AreDecided}
-use Rattle.rs_outlet.specs.Decided.Choices.{AreChoices}
+use Rattle.rs_outlet.specs.Inside.{IsDecidedAt, attributes_at}
+use Rattle.rs_outlet.specs.Decided.Choices.{AreChoices, AreJudgedAlike}
 use Rattle.rs_outlet.specs.Decided.Due.{Held, due_to}
-use Rattle.rs_outlet.specs.Decided.Plans.{changes_in}
-use Rattle.rs_outlet.specs.Decided.Touching.{is_numbered_in}
+use Rattle.rs_outlet.specs.Decided.News.{change_of, seen}
+use Rattle.rs_outlet.specs.Decided.Plans.{news_within}
 
--- the client holds none of the prefixes at the numbers that pass the test, and its rows have nothing there
-pub record AreNewTo (t : Held) (ins : AdjIns) (c : ℕ) (rows : List (Option Row)) (is_in : ℕ → Bool) : Type 0 where
-  pub free : (n : ℕ) → is_in n ≡ true → row_at rows n ≡ None
-  pub absent : (n : ℕ) → is_in n ≡ true → (p : Prefix) → number_of ins p ≡ Some n → t.held c p ≡ None
+-- what a change has is due to each client that is judged as this one is and holds no route for its prefix
+pub record IsDueAlike (t : Held) (ins : AdjIns) (c : ℕ) (speech : Speech) (it : (ℕ × Prefix) × Option (List Attribute)) : Type 0 where
+  pub placed : number_of ins it.0.1 ≡ Some it.0.0
+  pub due : (d : ℕ) → AreJudgedAlike t c d → t.held d it.0.1 ≡ None → due_to t d speech it.0.1 ≡ it.1
 
--- it has all that is due to its client at these numbers, where it holds nothing, and where no row had anything
+abbrev pub AreDueAlike : Held → AdjIns → ℕ → Speech → List Change → Type 0
+AreDueAlike t ins c speech changes = AllByRecursion (λ it. IsDueAlike t ins c speech (seen it)) changes
+
+-- what is known to be due so: changes, and news of whole blocks
+pub record AreKnown (t : Held) (ins : AdjIns) (c : ℕ) (speech : Speech) (cs : List Change) (ws : List Whole) : Type 0 where
+  pub changes : AreDueAlike t ins c speech cs
+  pub wholes : AllByRecursion (λ w. AreDueAlike t ins c speech (map change_of (news_within w))) ws
+
 pub record IsPrecedent (t : Held) (ins : AdjIns) (it : Precedent) : Type 0 where
-  pub known : it.client < length t.settings.clients
-  pub absent : (n : ℕ) → is_numbered_in it.touched.items n ≡ true → (p : Prefix) → number_of ins p ≡ Some n → t.held it.client p ≡ None
-  pub decided : AreDecided ins (due_to t it.client it.speech) [] (is_numbered_in it.touched.items) (changes_in it.pieces.items)
+  pub client : it.client < length t.settings.clients
+  pub known : AreKnown t ins it.client it.speech it.changes.items it.wholes.items
 
 -- what one outlet's turn hands over is of these tables and rules
 pub record IsHandover (t : Held) (ins : AdjIns) (it : Handover) : Type 0 where
   pub choices : AreChoices t ins it.choices.kept.items
   pub precedent : (p : Precedent) → it.precedent ≡ Some p → IsPrecedent t ins p
+
+-- these numbers are decided one after the other
+abbrev pub AreDecidedAt : AdjIns → (Prefix → Option (List Attribute)) → List (Option Row) → List ℕ → List Change → List Change → Type 0
+AreDecidedAt ins due_at rows [] old new = new ≡ old
+AreDecidedAt ins due_at rows (n ∷ ns) old new = (cs : List Change) × IsDecidedAt ins due_at rows n old cs × AreDecidedAt ins due_at rows ns cs new
+
+-- what is due to the client at a number was just decided so: as a change, or what its row has
+abbrev pub IsDecidedSo : Held → AdjIns → ℕ → Speech → List (Option Row) → ℕ → Option Change → Type 0
+IsDecidedSo t ins c speech rows n change =
+    (p : Prefix) → number_of ins p ≡ Some n → unwrap_or (option_map (λ c. option_map arc_value c.due) change) (attributes_at rows n) ≡ due_to t c speech p
+
+-- the client holds no route for the prefixes of these numbers
+abbrev pub AreUnheld : Held → AdjIns → ℕ → List ℕ → Type 0
+AreUnheld t ins c ns = AllByRecursion (λ n. (p : Prefix) → number_of ins p ≡ Some n → t.held c p ≡ None) ns

@@ -9,6 +9,7 @@ use rs_attrs::{Attrs, Mode};
 use rs_open::Limit;
 use rs_outlet::{Handover, Outlet};
 use std::alloc::Global;
+use std::ops::Range;
 use std::process::Abort;
 use std::sync::Arc;
 
@@ -68,6 +69,9 @@ const MANY_STRIPS: &str = concat!(
 const SETS: u8 = 40;
 
 const STRIPS: u8 = 18;
+
+/// How many prefixes have their rows in the first block.
+const BLOCK: u32 = 16;
 
 /// ORIGIN IGP, AS_PATH 64512, NEXT_HOP 192.0.2.`host`, and the communities 64512:1 and 64512:`other`.
 fn attrs(rt: &impl Abort, alloc: Global, host: u8, other: u8) -> Arc<Attrs> {
@@ -130,7 +134,18 @@ fn waiting(rt: &impl Abort, exchange: &Exchange, client: usize) -> Outlet {
 
 /// Each route of so many sets that the client is due has so many owners.
 fn have_owners(rt: &impl Abort, exchange: &Exchange, outlet: &Outlet, sets: u8, want: usize) {
-    for n in 0..u32::from(sets) * 2 {
+    have_owners_in(rt, exchange, outlet, 0..u32::from(sets) * 2, want);
+}
+
+/// The route that the client is due for each of these prefixes has so many owners.
+fn have_owners_in(
+    rt: &impl Abort,
+    exchange: &Exchange,
+    outlet: &Outlet,
+    prefixes: Range<u32>,
+    want: usize,
+) {
+    for n in prefixes {
         let attrs = outlet.route(&prefix(rt, n), &exchange.tables);
         equals(rt, Arc::strong_count(attrs.expect(rt, "a route")), want);
     }
@@ -211,6 +226,69 @@ fn what_was_decided_serves_one_that_has_not_been_told_all(rt: HostRuntime) {
     have_owners(&rt, &exchange, &first, SETS, 4);
     have_owners(&rt, &exchange, &alike, SETS, 4);
     have_owners(&rt, &exchange, &other, SETS, 2);
+    let_go(exchange, first);
+}
+
+/// The turns of two outlets, touched at these prefixes, of which the first hands over to the second.
+fn turn_two(
+    rt: &impl Abort,
+    exchange: &Exchange,
+    first: &mut Outlet,
+    to_first: Range<u32>,
+    alike: &mut Outlet,
+    to_alike: Range<u32>,
+) {
+    exchange.touch(rt, first, to_first, 1);
+    exchange.touch(rt, alike, to_alike, 1);
+    let mut handover = exchange.handover();
+    turn_by(rt, exchange, first, &mut handover);
+    turn_by(rt, exchange, alike, &mut handover);
+}
+
+/// One that was touched at fewer prefixes, as who announced the others is, has the blocks of all that it was touched at.
+#[test]
+fn what_was_decided_serves_one_that_was_touched_at_fewer(rt: HostRuntime) {
+    let mut exchange = Exchange::of(&rt, rt.alloc(), DECIDED_ALIKE);
+    let mut first = waiting(&rt, &exchange, CLIENT);
+    let mut alike = waiting(&rt, &exchange, CLIENT + 1);
+    announce(&rt, &mut exchange, SETS, 2, false);
+    let count = u32::from(SETS) * 2;
+    turn_two(
+        &rt,
+        &exchange,
+        &mut first,
+        0..count,
+        &mut alike,
+        BLOCK..count,
+    );
+    have_owners(&rt, &exchange, &first, SETS, 2);
+    have_owners_in(&rt, &exchange, &alike, BLOCK..count, 2);
+    equals(
+        &rt,
+        alike.route(&prefix(&rt, 0), &exchange.tables).is_none(),
+        true,
+    );
+    let_go(exchange, first);
+}
+
+/// One that was touched at more has the blocks that the one before it has, and its own for the others.
+#[test]
+fn what_was_decided_serves_one_that_was_touched_at_more(rt: HostRuntime) {
+    let mut exchange = Exchange::of(&rt, rt.alloc(), DECIDED_ALIKE);
+    let mut first = waiting(&rt, &exchange, CLIENT);
+    let mut alike = waiting(&rt, &exchange, CLIENT + 1);
+    announce(&rt, &mut exchange, SETS, 2, false);
+    let count = u32::from(SETS) * 2;
+    turn_two(
+        &rt,
+        &exchange,
+        &mut first,
+        BLOCK..count,
+        &mut alike,
+        0..count,
+    );
+    have_owners(&rt, &exchange, &alike, SETS, 2);
+    have_owners_in(&rt, &exchange, &first, BLOCK..count, 2);
     let_go(exchange, first);
 }
 

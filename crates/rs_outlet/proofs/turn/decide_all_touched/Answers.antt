@@ -1,11 +1,12 @@
-use Rattle.std.proofs.Common.{◌≡◌, ◌∙◌, ap, length, subst, sym, ℕ, List, false, nat_lt, Option, Some, Result, Ok, Err, IfOk}
-use Rattle.std.specs.Prelude.{IfSome, is_none}
+use Rattle.std.proofs.Common.{◌≡◌, ◌∙◌, ap, length, subst, sym, ℕ, List, false, nat_lt, Result, Ok, Err, IfOk}
+use Rattle.std.specs.Prelude.{is_none}
 use Rattle.rs_octets.specs.Prefixes.{Prefix}
 use Rattle.rs_outlet.specs.Decided.Due.{due_to}
 use Rattle.rs_outlet.specs.Decided.HeldBy.{held_by}
 use Rattle.rs_outlet.specs.Decided.Plans.{IsPlanned}
 use Rattle.rs_outlet.specs.Decided.Touching.{AreOnce, is_number_touched, is_numbered_in, touched_of}
 use Rattle.rs_outlet.specs.Views.{HaveNumbers, is_whole}
+use Rattle.rs_outlet.proofs.Answered.{if_some_at}
 use Rattle.rs_outlet.proofs.turn.decide_all_touched.Goals as goal
 
 if_ok_map : {A E : Type 0} (P Q : A → Type 0) (r : Result A E) → IfOk r P → ((x : A) → P x → Q x) → IfOk r Q
@@ -15,9 +16,6 @@ if_ok_map P Q (Err e) h q = tt
 if_ok_both : {A E : Type 0} (P Q R : A → Type 0) (r : Result A E) → IfOk r P → IfOk r Q → ((x : A) → P x → Q x → R x) → IfOk r R
 if_ok_both P Q R (Ok x) h k q = q x h k
 if_ok_both P Q R (Err e) h k q = tt
-
-if_some_at : {A : Type 0} (Q : A → Type 0) (o : Option A) (x : A) → o ≡ Some x → IfSome o Q → Q x
-if_some_at Q o x is h = subst (λ o. IfSome o Q) is h
 
 is_whole_by : (c : goal.After-drop-list) → HaveNumbers c.args.touched.now.prefixes.items c.args.sources.now.ins.now → nat_lt 4096 (length c.deref.result.now) ≡ is_whole (touched_of c.args.touched.now.all c.args.touched.now.prefixes.items)
 is_whole_by c are =

@@ -21,7 +21,7 @@ loop-index-preserved c =
           ∙ ap (λ ns. map row_of ns ++ replicate (16 - (i + 1)) None) (sym c.in_ok-push.ensures.items);
       same =
           ap (λ ns. map seen (map change_of ns)) c.in_ok-push.ensures.items
-          ∙ seen_more c.loop-index.news.items n c.args.changes.now i c.index-changes-index.result inv.same (omega (arith, below, c.requires)) c.index-changes-index.is (some_seen _ n c.index-changes-index.result c.in-Some.is c.in_ok-one.ensures);
+          ∙ seen_more c.loop-index.news.items n c.args.changes.now i c.index-changes-index.result inv.same (omega (arith, below, c.requires)) c.index-changes-index.is (some_seen _ n c.index-changes-index.result c.in-Some.is c.in_ok-one.ensures.same);
       numbers = subst (Rise from) (sym c.in_ok-push.ensures.items) (from_push from c.loop-index.news.items n inv.numbers (omega (arith, c.if-one-place.false, c.if-one-index.false, inv.count)));
       count = ap length c.in_ok-push.ensures.items ∙ length-append c.loop-index.news.items (n ∷ []) ∙ ap (λ k. k + 1) inv.count;
     }
