@@ -7,3 +7,4 @@ pub mod Placed
 pub mod Noted
 pub mod Prefixes
 pub mod PassedOver
+pub mod Receivers

@@ -20,6 +20,19 @@ pattern_for to_as t = record { high = number_for to_as t.high; low = number_for 
 abbrev pub large_pattern_for : ℕ → LargeCommunityTest → LargeCommunityPattern
 large_pattern_for to_as t = record { global = number_for to_as t.global; first = number_for to_as t.first; second = number_for to_as t.second }
 
+-- what they are like, whoever the receiver is: it may have any AS number
+
+abbrev pub number_for_any : Part → Option ℕ
+number_for_any (Number n) = Some n
+number_for_any Any = None
+number_for_any Peer = None
+
+abbrev pub pattern_for_any : CommunityTest → CommunityPattern
+pattern_for_any t = record { high = number_for_any t.high; low = number_for_any t.low }
+
+abbrev pub large_pattern_for_any : LargeCommunityTest → LargeCommunityPattern
+large_pattern_for_any t = record { global = number_for_any t.global; first = number_for_any t.first; second = number_for_any t.second }
+
 -- whether a part is `peer`
 
 abbrev pub is_peer : Part → Bool

@@ -20,7 +20,7 @@ ghost use Rattle.rs_policy.specs.Values.{answer, Answers};
 ghost use Rattle.rs_policy.specs.Configuration.{client_of, policy_of, shared_at, stated_of};
 ghost use Rattle.rs_policy.specs.Noted.{IsRead};
 ghost use Rattle.rs_policy.specs.Sound.{IsSound};
-ghost use Rattle.rs_policy.specs.Documents.{document_checks, configuration_of, config_of, rules_name_peer};
+ghost use Rattle.rs_policy.specs.Documents.{document_checks, configuration_of, config_of};
 
 use crate::config::clients::{Client, read_clients};
 use crate::config::named_lists::{NamedList, read_named_lists};
@@ -231,15 +231,14 @@ impl Config {
         Rules::of(&policy.export, &self.shared)
     }
 
-    /// Whether the export lists of two clients have the same rules, of which no test names the receiver.
-    pub(crate) fn has_same_exports(&self, one: usize, other: usize) -> bool
+    /// Whether the export lists of two clients have the same rules: both use the same `[[rules]]`, or have none. Of rules that
+    /// stand in the lists themselves it is not told. It takes no memory.
+    pub fn has_same_exports(&self, one: usize, other: usize) -> bool
         requires one { one < length self.now.clients }
         requires other { other < length self.now.clients }
-        ensures same { IsTrue result → (policy_of self.now one).export ≡ (policy_of self.now other).export }
-        ensures no_peer { IsTrue result → rules_name_peer (policy_of self.now one).export ≡ false }
+        ensures { IsTrue result → (policy_of self.now one).export ≡ (policy_of self.now other).export }
     {
-        let (one, other) = (&self.policies[one], &self.policies[other]);
-        are_same_uses(&self.shared, &one.export, &other.export)
+        are_same_uses(&self.policies[one].export, &self.policies[other].export)
     }
 
     /// What it keeps, beside what `clients` says: what an import list makes of a route is the same, whoever

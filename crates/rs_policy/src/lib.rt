@@ -10,7 +10,8 @@
 //!   which configuration can take the place of one that is in use.
 //! - `rules` are rules as values; of `rules/` `matching` says which routes a rule matches, `verdict` what
 //!   becomes of a route, `noting` keeps the import list's part of it as a number, and `reasons` says which
-//!   rules decided.
+//!   rules decided; `alike` says of which clients and of which routes the same becomes, and `receivers` where it may
+//!   count who is sent a route.
 //! - `faults` says what can be wrong and where, and writes it in words; `faults/line` is such a
 //!   line; `keys` are those that each table may have.
 //! - `laws` are contracts of functions that do nothing.
@@ -28,4 +29,5 @@ pub use keys::{is_known, known_keys};
 pub use rules::alike::{judges_alike, judges_prefixes_alike, passes_plainly};
 pub use rules::noting::{import_note, is_plain_note, judge_noted};
 pub use rules::reasons::{Decider, Reasons, reasons_for};
+pub use rules::receivers::may_ask_receiver;
 pub use rules::verdict::{Fate, Verdict, judge};

@@ -5,11 +5,12 @@ mod matching;
 pub(crate) mod noting;
 mod offer;
 pub(crate) mod reasons;
+pub(crate) mod receivers;
 pub(crate) mod verdict;
 
 ghost use Rattle.std.specs.Prelude.{◌≡◌, true, []};
 ghost use Rattle.rs_policy.specs.Configuration.{written_out};
-ghost use Rattle.rs_policy.specs.Patterns.{number_for, is_peer, pattern_for, large_pattern_for, names_peer, large_names_peer, tests_name_peer};
+ghost use Rattle.rs_policy.specs.Patterns.{number_for, number_for_any, is_peer, pattern_for, pattern_for_any, large_pattern_for, large_pattern_for_any, names_peer, large_names_peer, tests_name_peer};
 ghost use Rattle.rs_policy.specs.Verdicts.{named_by, takes_all};
 
 use crate::config::shared_rules::SharedRules;
@@ -61,6 +62,16 @@ impl Part {
         }
     }
 
+    /// The number that it has to be, whoever the receiver is.
+    fn number_for_any(self) -> Option<u32>
+        ensures { result ≡ number_for_any self }
+    {
+        match self {
+            Part::Number(number) => Some(number),
+            Part::Any | Part::Peer => None,
+        }
+    }
+
     fn is_peer(self) -> bool
         ensures { result ≡ is_peer self }
     {
@@ -79,7 +90,17 @@ impl CommunityTest {
         }
     }
 
-    fn names_peer(self) -> bool
+    /// What it asks for, whoever the receiver is.
+    pub(crate) fn pattern_for_any(self) -> CommunityPattern
+        ensures { result ≡ pattern_for_any self }
+    {
+        CommunityPattern {
+            high: self.high.number_for_any(),
+            low: self.low.number_for_any(),
+        }
+    }
+
+    pub(crate) fn names_peer(self) -> bool
         ensures { result ≡ names_peer self }
     {
         self.high.is_peer() || self.low.is_peer()
@@ -98,7 +119,18 @@ impl LargeCommunityTest {
         }
     }
 
-    fn names_peer(self) -> bool
+    /// What it asks for, whoever the receiver is.
+    pub(crate) fn pattern_for_any(self) -> LargeCommunityPattern
+        ensures { result ≡ large_pattern_for_any self }
+    {
+        LargeCommunityPattern {
+            global: self.global.number_for_any(),
+            first: self.first.number_for_any(),
+            second: self.second.number_for_any(),
+        }
+    }
+
+    pub(crate) fn names_peer(self) -> bool
         ensures { result ≡ large_names_peer self }
     {
         self.global.is_peer() || self.first.is_peer() || self.second.is_peer()

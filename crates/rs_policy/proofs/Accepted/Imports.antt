@@ -133,12 +133,12 @@ number_alike (Number k) m n e = refl
 number_alike Any m n e = refl
 number_alike Peer m n e = cc
 
-pattern_alike : (t : CommunityTest) (m n : ℕ) → names_peer t ≡ false → pattern_for m t ≡ pattern_for n t
+pub pattern_alike : (t : CommunityTest) (m n : ℕ) → names_peer t ≡ false → pattern_for m t ≡ pattern_for n t
 pattern_alike t m n e =
     let h : (is_peer t.high ≡ false) × (is_peer t.low ≡ false) = or_parts (is_peer t.high) (is_peer t.low) e in
     λ i. record { high = number_alike t.high m n h.0 i; low = number_alike t.low m n h.1 i }
 
-large_pattern_alike : (t : LargeCommunityTest) (m n : ℕ) → large_names_peer t ≡ false → large_pattern_for m t ≡ large_pattern_for n t
+pub large_pattern_alike : (t : LargeCommunityTest) (m n : ℕ) → large_names_peer t ≡ false → large_pattern_for m t ≡ large_pattern_for n t
 large_pattern_alike t m n e =
     let h : (is_peer t.global ≡ false) × ((is_peer t.first || is_peer t.second) ≡ false) = or_parts (is_peer t.global) (is_peer t.first || is_peer t.second) e in
     let k : (is_peer t.first ≡ false) × (is_peer t.second ≡ false) = or_parts (is_peer t.first) (is_peer t.second) h.1 in
@@ -147,7 +147,7 @@ large_pattern_alike t m n e =
 abbrev pub sent_to : AnnouncedRoute → ℕ → AnnouncedRoute
 sent_to r n = record r { to_as = n }
 
-abbrev IsAskedAlike : {A : Type 0} → (A → AnnouncedRoute → Bool) → AnnouncedRoute → ℕ → Option A → Type 0
+abbrev pub IsAskedAlike : {A : Type 0} → (A → AnnouncedRoute → Bool) → AnnouncedRoute → ℕ → Option A → Type 0
 IsAskedAlike has r n o = holds (λ t. has t r) o ≡ holds (λ t. has t (sent_to r n)) o
 
 community_alike : (o : Option CommunityTest) (r : AnnouncedRoute) (n : ℕ) → unwrap_or (option_map names_peer o) false ≡ false → IsAskedAlike has_community r n o
@@ -171,13 +171,20 @@ matches_by b c lists rule r =
     && (holds (λ n. origin_in (list_at lists n) r) rule.tests.origin_in
     && path_matches lists rule.tests r)))))))
 
+-- where its tests of communities have the same answers, a rule matches alike
+pub matches_asked : (lists : List NamedList) (rule : Rule) (r : AnnouncedRoute) (n : ℕ) → IsAskedAlike has_community r n rule.tests.community → IsAskedAlike has_large_community r n rule.tests.large_community
+    → matches lists rule r ≡ matches lists rule (sent_to r n)
+unfolding matches attributes_match
+matches_asked lists rule r n short large =
+    ap (λ b. matches_by b (holds (λ t. has_large_community t r) rule.tests.large_community) lists rule r) short
+    ∙ ap (λ c. matches_by (holds (λ t. has_community t (sent_to r n)) rule.tests.community) c lists rule r) large
+
 matches_alike : (lists : List NamedList) (rule : Rule) (r : AnnouncedRoute) (n : ℕ) → tests_name_peer rule.tests ≡ false → matches lists rule r ≡ matches lists rule (sent_to r n)
-unfolding matches attributes_match tests_name_peer
+unfolding tests_name_peer
 matches_alike lists rule r n e =
     let h : (unwrap_or (option_map names_peer rule.tests.community) false ≡ false) × (unwrap_or (option_map large_names_peer rule.tests.large_community) false ≡ false) =
     or_parts (unwrap_or (option_map names_peer rule.tests.community) false) (unwrap_or (option_map large_names_peer rule.tests.large_community) false) e in
-    ap (λ b. matches_by b (holds (λ t. has_large_community t r) rule.tests.large_community) lists rule r) (community_alike rule.tests.community r n h.0)
-    ∙ ap (λ c. matches_by (holds (λ t. has_community t (sent_to r n)) rule.tests.community) c lists rule r) (large_community_alike rule.tests.large_community r n h.1)
+    matches_asked lists rule r n (community_alike rule.tests.community r n h.0) (large_community_alike rule.tests.large_community r n h.1)
 
 pub found_alike : (lists : List NamedList) (rules : List Rule) (r : AnnouncedRoute) (n : ℕ) → rules_name_peer rules ≡ false
     → find (λ rule. matches lists rule r) rules ≡ find (λ rule. matches lists rule (sent_to r n)) rules

@@ -1,12 +1,27 @@
 -- A rule doesn't match a route that lacks a community for which it asks.
-use Rattle.std.proofs.Common.{◌≡◌, ◌==◌, ◌&&◌, not, Some, false, List, ap, ◌∙◌}
+use Rattle.std.proofs.Common.{◌≡◌, ◌==◌, ◌&&◌, ◌||◌, Bool, not, Some, None, true, false, List, [], ◌∷◌, refl, sym, ap, ◌∙◌}
 use Rattle.std.specs.Prelude.{if◌then◌else◌}
+use Rattle.std.specs.List.{list_any}
 use Rattle.std.proofs.Math.Bool.{and-false}
+use Rattle.rs_attrs.specs.Getters.{communities_of, large_communities_of}
+use Rattle.rs_attrs.specs.Meaning.{Attribute}
+use Rattle.rs_attrs.specs.Patterns.{is_like, is_like_large}
 use Rattle.rs_policy.specs.Configuration.{NamedList, list_at}
 use Rattle.rs_policy.specs.Verdicts.{AnnouncedRoute, attributes_match, has_community, has_large_community, has_prefix, holds, in_range, matches, next_hop_is_peer, origin_as_is, origin_in, path_matches}
 use Rattle.rs_policy.specs.declared.rules.CommunityTest.{CommunityTest}
 use Rattle.rs_policy.specs.declared.rules.LargeCommunityTest.{LargeCommunityTest}
 use Rattle.rs_policy.specs.declared.rules.Rule.{Rule}
+
+-- where none is like what each is like, there is none
+none_there : {X : Type 0} (any : X → Bool) → ((x : X) → any x ≡ true) → (xs : List X) → list_any any xs ≡ false → xs ≡ []
+none_there any like [] none = refl
+none_there any like (x ∷ xs) none = absurd (let e : true ≡ false = sym (ap (λ b. b || list_any any xs) (like x)) ∙ none in cc e)
+
+pub no_community : (m : List Attribute) → list_any (is_like (record { high = None; low = None })) (communities_of m) ≡ false → communities_of m ≡ []
+no_community m none = none_there (is_like (record { high = None; low = None })) (λ c. refl) (communities_of m) none
+
+pub no_large_community : (m : List Attribute) → list_any (is_like_large (record { global = None; first = None; second = None })) (large_communities_of m) ≡ false → large_communities_of m ≡ []
+no_large_community m none = none_there (is_like_large (record { global = None; first = None; second = None })) (λ c. refl) (large_communities_of m) none
 
 -- where the attributes don't match
 fails : (lists : List NamedList) (rule : Rule) (r : AnnouncedRoute) → attributes_match lists rule.tests r ≡ false → matches lists rule r ≡ false

@@ -4,48 +4,35 @@ ghost use Rattle.std.specs.Prelude.{◌≡◌, ◌<◌, ℕ, List, false, length
 ghost use Rattle.std.specs.List.{list_any};
 ghost use Rattle.rs_policy.specs.Alike.{PassesPlainly, PrefixesAreAlike};
 ghost use Rattle.rs_policy.specs.Asking.{asks_prefix};
-ghost use Rattle.rs_policy.specs.Configuration.{rules_in, written_out};
-ghost use Rattle.rs_policy.specs.Documents.{rules_name_peer};
-ghost use Rattle.rs_policy.specs.declared.rules.Item.TheVariants as Item;
+ghost use Rattle.rs_policy.specs.Configuration.{rules_in};
 ghost use Rattle.rs_octets.specs.Prefixes.{Prefix};
 ghost use Rattle.rs_attrs.specs.Meaning.{Attribute};
 ghost use Rattle.rs_policy.specs.Verdicts.{verdict};
 
 use crate::config::Config;
 use crate::config::shared_rules::SharedRules;
+use crate::rules::receivers::names_receiver;
 use crate::rules::{Disposition, Item, Rule};
 
-/// Whether a part of a test of the rules of a place is `peer`. There are none where there is no such place.
-fn names_peer(shared: &[SharedRules], place: usize) -> bool
-    ensures { result ≡ rules_name_peer (rules_in shared.now (Item.Use place)) }
-{
-    match shared.get(place) {
-        None => false,
-        Some(used) => used.name_peer,
-    }
-}
-
-/// Whether what stands at places of two lists is the use of the same rules, of which no test names the receiver.
-fn is_same_use(shared: &[SharedRules], one: &Item, other: &Item) -> bool
-    ensures same { IsTrue result → rules_in shared.now one.now ≡ rules_in shared.now other.now }
-    ensures no_peer { IsTrue result → rules_name_peer (rules_in shared.now one.now) ≡ false }
+/// Whether what stands at places of two lists is the use of the same rules.
+fn is_same_use(one: &Item, other: &Item) -> bool
+    ensures { IsTrue result → one.now ≡ other.now }
 {
     match (one, other) {
-        (Item::Use(one), Item::Use(other)) => one == other && !names_peer(shared, *one),
+        (Item::Use(one), Item::Use(other)) => one == other,
         _ => false,
     }
 }
 
-/// Whether two lists use the same rules one after the other, and no test of these names the receiver.
-pub(crate) fn are_same_uses(shared: &[SharedRules], one: &[Item], other: &[Item]) -> bool
-    ensures same { IsTrue result → written_out shared.now one.now ≡ written_out shared.now other.now }
-    ensures no_peer { IsTrue result → rules_name_peer (written_out shared.now one.now) ≡ false }
+/// Whether two lists use the same rules one after the other.
+pub(crate) fn are_same_uses(one: &[Item], other: &[Item]) -> bool
+    ensures { IsTrue result → one.now ≡ other.now }
 {
     if one.len() != other.len() {
         return false;
     }
     for place in 0..one.len() {
-        if !is_same_use(shared, &one[place], &other[place]) {
+        if !is_same_use(&one[place], &other[place]) {
             return false;
         }
     }
@@ -60,7 +47,7 @@ pub fn judges_alike(config: &Config, one: usize, other: usize) -> bool
     ensures { IsTrue result → (from : ℕ) (p : Prefix) (m : List Attribute) → from < length config.now.clients → verdict config.now from one p m ≡ verdict config.now from other p m }
 {
     config.is_read();
-    config.has_same_exports(one, other)
+    config.has_same_exports(one, other) && !names_receiver(config, one)
 }
 
 /// Whether a rule asks for the prefix of a route.

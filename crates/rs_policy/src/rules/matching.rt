@@ -179,22 +179,39 @@ fn attributes_match(lists: &[NamedList], tests: &Tests, offer: &Offer<'_, '_>) -
     path_matches(lists, tests, offer)
 }
 
-/// Whether a rule asks for a community that the route surely hasn't: that is told without looking at one, and most rules of an
-/// exchange end here.
+/// Whether it is told without looking at one that no community is as a test asks: there is none at all, or none of its first part.
+fn surely_lacks(test: CommunityTest, offer: &Offer<'_, '_>) -> bool
+    ensures { IsTrue result → has_community test (offered offer.now) ≡ false }
+{
+    if offer.lacks_communities {
+        return true;
+    }
+    let pattern = test.pattern_for(offer.to_as);
+    offer.tags.lacks_community_like(&pattern)
+}
+
+/// The same of large communities.
+fn surely_lacks_large(test: LargeCommunityTest, offer: &Offer<'_, '_>) -> bool
+    ensures { IsTrue result → has_large_community test (offered offer.now) ≡ false }
+{
+    if offer.lacks_large {
+        return true;
+    }
+    let pattern = test.pattern_for(offer.to_as);
+    offer.tags.lacks_large_community_like(&pattern)
+}
+
+/// Whether a rule asks for a community that the route surely hasn't: most rules of an exchange end here.
 fn is_passed_over(rule: &Rule, offer: &Offer<'_, '_>) -> bool
     ensures { IsTrue result → (lists : List NamedList) → matches lists rule.now (offered offer.now) ≡ false }
 {
     if let Some(test) = rule.tests.community
-        && offer
-            .tags
-            .lacks_community_like(&test.pattern_for(offer.to_as))
+        && surely_lacks(test, offer)
     {
         return true;
     }
     if let Some(test) = rule.tests.large_community
-        && offer
-            .tags
-            .lacks_large_community_like(&test.pattern_for(offer.to_as))
+        && surely_lacks_large(test, offer)
     {
         return true;
     }

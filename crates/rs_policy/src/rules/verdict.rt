@@ -19,6 +19,19 @@ use rs_octets::Prefix;
 /// The preference of a route that no rule gives one.
 const DEFAULT_PREFERENCE: u32 = 100;
 
+/// What each community is like.
+const ANY: CommunityPattern = CommunityPattern {
+    high: None,
+    low: None,
+};
+
+/// What each large community is like.
+const ANY_LARGE: LargeCommunityPattern = LargeCommunityPattern {
+    global: None,
+    first: None,
+    second: None,
+};
+
 /// What becomes of a route on its way from one client to another. `S` says which communities it
 /// loses.
 #[derive(Clone, Copy, Debug)]
@@ -223,13 +236,16 @@ pub(super) fn offer_to<'p, 'a>(
     requires to { to < length config.now.clients }
     ensures { offered result ≡ announced_route config.now from to prefix.now attrs.now }
 {
+    let tags = attrs.tags();
     Offer {
         from,
         peer: config.peer(from),
         peer_as: config.client_as(from),
         prefix,
         attrs,
-        tags: attrs.tags(),
+        tags,
+        lacks_communities: !tags.has_community_like(&ANY),
+        lacks_large: !tags.has_large_community_like(&ANY_LARGE),
         to_as: config.client_as(to),
     }
 }

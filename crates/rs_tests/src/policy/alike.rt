@@ -1,6 +1,8 @@
 //! Clients to which the same becomes of each route, and routes of which the same becomes on their way to a client.
 
 use super::*;
+use crate::common::{ROUTE, attrs};
+use rs_attrs::Attrs;
 
 /// A list of prefixes, rules that ask for the prefix, and rules that don't.
 const NAMED: &str = concat!(
@@ -44,28 +46,42 @@ fn routes_are_judged_alike_where_no_rule_asks_for_the_prefix(rt: HostRuntime) {
 const NAMING: &str =
     "[[rules]]\nname = \"p\"\nrules = [{ community = \"0:peer\", action = \"drop\" }]\n";
 
-/// The export lists of two clients, and whether the same becomes of each route on its way to both, as far as is told.
-static PAIRS: [(&str, &str, bool); 7] = [
-    ("", "", true),
-    ("{ use = \"s\" }", "{ use = \"s\" }", true),
+/// The export lists of two clients, whether they have the same rules, and whether the same becomes of each route on its way to
+/// both, as far as is told.
+static PAIRS: [(&str, &str, bool, bool); 8] = [
+    ("", "", true, true),
+    ("{ use = \"s\" }", "{ use = \"s\" }", true, true),
     (
         "{ use = \"s\" }, { use = \"r\" }",
         "{ use = \"s\" }, { use = \"r\" }",
+        true,
         true,
     ),
     (
         "{ use = \"s\" }, { use = \"r\" }",
         "{ use = \"r\" }, { use = \"s\" }",
         false,
+        false,
     ),
-    ("{ use = \"s\" }, { use = \"r\" }", "{ use = \"s\" }", false),
-    ("{ use = \"s\" }", "", false),
-    ("{ use = \"p\" }", "{ use = \"p\" }", false),
+    (
+        "{ use = \"s\" }, { use = \"r\" }",
+        "{ use = \"s\" }",
+        false,
+        false,
+    ),
+    ("{ use = \"s\" }", "", false, false),
+    ("{ use = \"p\" }", "{ use = \"p\" }", true, false),
+    (
+        "{ use = \"s\" }, { use = \"p\" }",
+        "{ use = \"s\" }, { use = \"p\" }",
+        true,
+        false,
+    ),
 ];
 
 #[test]
 fn clients_that_use_the_same_rules_are_judged_alike(rt: HostRuntime) {
-    for (one, other, want) in &PAIRS {
+    for (one, other, same, alike) in &PAIRS {
         let parts = [
             TOP,
             CLIENT,
@@ -81,7 +97,57 @@ fn clients_that_use_the_same_rules_are_judged_alike(rt: HostRuntime) {
         ];
         let config = read_parts(&rt, rt.alloc(), &parts);
         assert!(&rt; config.clients() > 1);
-        is_of(&rt, judges_alike(&config, 0, 1), *want, &(*one, *other));
+        let lists = (*one, *other);
+        is_of(&rt, config.has_same_exports(0, 1), *same, &lists);
+        is_of(&rt, judges_alike(&config, 0, 1), *alike, &lists);
         let_go(config);
     }
+}
+
+/// The export rules of an exchange, which name the receiver in communities and in large ones.
+const ACTIONS: &str = concat!(
+    "[[rules]]\nname = \"actions\"\nrules = [{ community = \"0:peer\", action = \"drop\" }, ",
+    "{ large_community = \"64500:0:peer\", action = \"drop\" }, { community = \"0:64500\", action = \"drop\" }]\n",
+);
+
+/// COMMUNITIES, if any, behind the attributes of `ROUTE`.
+fn with_communities(rt: &impl Abort, alloc: Global, octets: &[u8]) -> Attrs {
+    let mut field = Vec::from_slice(alloc, &ROUTE).expect(rt, "octets");
+    field.extend_from_slice(octets).expect(rt, "more octets");
+    attrs(rt, alloc, &field)
+}
+
+/// Attributes of communities, and whether it may count by those rules who a route with them goes to.
+static ASKING: [(&[u8], bool); 7] = [
+    (&[], false),
+    // 64500:1, and 1:64500
+    (&[0xc0, 8, 4, 0xfb, 0xf4, 0, 1], false),
+    (&[0xc0, 8, 4, 0, 1, 0xfb, 0xf4], false),
+    // to the member 64497, to another one, and to none
+    (&[0xc0, 8, 4, 0, 0, 0xfb, 0xf1], true),
+    (&[0xc0, 8, 8, 0xfb, 0xf4, 0, 1, 0, 0, 0, 7], true),
+    // 64500:0:65551, and 64500:1:65551
+    (
+        &[0xc0, 32, 12, 0, 0, 0xfb, 0xf4, 0, 0, 0, 0, 0, 1, 0, 0x0f],
+        true,
+    ),
+    (
+        &[0xc0, 32, 12, 0, 0, 0xfb, 0xf4, 0, 0, 0, 1, 0, 1, 0, 0x0f],
+        false,
+    ),
+];
+
+#[test]
+fn it_counts_who_a_route_goes_to_where_a_community_names_a_receiver(rt: HostRuntime) {
+    let uses = "export = [{ use = \"actions\" }]\n";
+    let parts = [TOP, CLIENT, OTHER, uses, ACTIONS];
+    let config = read_parts(&rt, rt.alloc(), &parts);
+    assert!(&rt; config.clients() > 1);
+    for (octets, want) in &ASKING {
+        let attrs = with_communities(&rt, rt.alloc(), octets);
+        is_of(&rt, may_ask_receiver(&config, 1, &attrs), *want, octets);
+        // the other client has no export rules
+        is_of(&rt, may_ask_receiver(&config, 0, &attrs), false, octets);
+    }
+    let_go(config);
 }

@@ -1,0 +1,113 @@
+//! Whether the rules ask who a route goes to: where they name the receiver, its communities tell.
+
+ghost use Rattle.std.specs.Prelude.{◌≡◌, ◌<◌, false, length};
+ghost use Rattle.std.specs.List.{list_any};
+ghost use Rattle.rs_attrs.specs.Getters.{communities_of, large_communities_of, large_tagged, tagged};
+ghost use Rattle.rs_policy.specs.Alike.{ReceiversAreAlike};
+ghost use Rattle.rs_policy.specs.Asking.{asks_receiver};
+ghost use Rattle.rs_policy.specs.Configuration.{policy_of, rules_in};
+ghost use Rattle.rs_policy.specs.Documents.{rules_name_peer};
+
+use crate::config::Config;
+use crate::config::shared_rules::SharedRules;
+use crate::rules::{Item, Rule};
+use rs_attrs::{Attrs, Tags};
+
+/// The attributes of a route, and its communities, found once for many tests.
+#[derive(Clone, Copy)]
+struct Asked<'a> {
+    attrs: &'a Attrs,
+    tags: Tags<'a>,
+    ghost communities: { tagged tags ≡ communities_of attrs.now },
+    ghost large: { large_tagged tags ≡ large_communities_of attrs.now },
+}
+
+/// Whether a rule may match a route or not by who the receiver is: a test names the receiver, and a community is as it asks of
+/// some receiver.
+fn asks_receiver(rule: &Rule, asked: &Asked<'_>) -> bool
+    ensures { result ≡ asks_receiver asked.now.attrs.now rule.now }
+{
+    if let Some(test) = rule.tests.community
+        && test.names_peer()
+        && asked.tags.has_community_like(&test.pattern_for_any())
+    {
+        return true;
+    }
+    match rule.tests.large_community {
+        None => false,
+        Some(test) => {
+            test.names_peer() && asked.tags.has_large_community_like(&test.pattern_for_any())
+        }
+    }
+}
+
+/// Whether a rule at a place of a client's list may.
+fn asks_receiver_at(shared: &[SharedRules], item: &Item, asked: &Asked<'_>) -> bool
+    ensures { result ≡ list_any (asks_receiver asked.now.attrs.now) (rules_in shared.now item.now) }
+{
+    match item {
+        Item::Own(rule) => asks_receiver(rule, asked),
+        Item::Use(place) => match shared.get(*place) {
+            None => false,
+            Some(used) => used.rules.iter().any(|rule| asks_receiver(rule, asked)),
+        },
+    }
+}
+
+/// Whether a rule of a client's list may.
+fn asks_receiver_among(shared: &[SharedRules], items: &[Item], asked: &Asked<'_>) -> bool
+    ensures { result ≡ list_any (λ item. list_any (asks_receiver asked.now.attrs.now) (rules_in shared.now item)) items.now }
+{
+    items
+        .iter()
+        .any(|item| asks_receiver_at(shared, item, asked))
+}
+
+/// Whether something else may become of a route with these attributes on its way to a client than on its way to another one
+/// that has the same export rules: one of these names the receiver, and a community is as it asks. It takes no memory.
+pub fn may_ask_receiver(config: &Config, to: usize, attrs: &Attrs) -> bool
+    requires { to < length config.now.clients }
+    ensures { result ≡ false → ReceiversAreAlike config.now to attrs.now }
+{
+    config.is_read();
+    let exports = config.export(to);
+    if exports.is_empty() {
+        return false;
+    }
+    let (items, shared) = exports.parts();
+    let asked = Asked {
+        attrs,
+        tags: attrs.tags(),
+    };
+    asks_receiver_among(shared, items, &asked)
+}
+
+/// Whether a test of the rules at a place of a client's list names the receiver.
+fn names_receiver_at(shared: &[SharedRules], item: &Item) -> bool
+    ensures { result ≡ rules_name_peer (rules_in shared.now item.now) }
+{
+    match item {
+        Item::Own(rule) => rule.tests.name_peer(),
+        Item::Use(place) => match shared.get(*place) {
+            None => false,
+            Some(used) => used.name_peer,
+        },
+    }
+}
+
+/// Whether one of a client's list does.
+fn names_receiver_among(shared: &[SharedRules], items: &[Item]) -> bool
+    ensures { result ≡ list_any (λ item. rules_name_peer (rules_in shared.now item)) items.now }
+{
+    items.iter().any(|item| names_receiver_at(shared, item))
+}
+
+/// Whether a test of a client's export rules names the receiver.
+pub(crate) fn names_receiver(config: &Config, to: usize) -> bool
+    requires { to < length config.now.clients }
+    ensures { result ≡ false → rules_name_peer (policy_of config.now to).export ≡ false }
+{
+    let exports = config.export(to);
+    let (items, shared) = exports.parts();
+    names_receiver_among(shared, items)
+}
