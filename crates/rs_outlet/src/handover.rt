@@ -20,7 +20,6 @@ use crate::serving::news_to;
 use crate::table::Rows;
 use crate::turn::decide_touched;
 use rs_octets::Prefix;
-use rs_policy::judges_alike;
 use std::alloc::{AllocError, Global};
 
 /// With how many prefixes what was decided is kept: fewer are decided as quickly.
@@ -61,7 +60,9 @@ impl Handover {
         };
         if count < FEWEST
             || count <= most
-            || !judges_alike(sources.config, sources.client, sources.client)
+            || !sources
+                .config
+                .has_same_exports(sources.client, sources.client)
         {
             return None;
         }

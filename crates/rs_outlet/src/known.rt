@@ -1,6 +1,7 @@
-//! What is known of what is due to a client: what was decided for one that is decided alike, and holds no route there either.
+//! What is known of what is due to a client: what was decided for one that has the same export rules, and holds no route there
+//! either. Of a prefix with a route of which these ask who it goes to, nothing is known.
 
-ghost use Rattle.std.specs.Prelude.{◌≡◌, Option, Some, None, option_map, option_copied, IfOk, IfSome, OnOk, IsTrue};
+ghost use Rattle.std.specs.Prelude.{◌≡◌, ◌<◌, false, length, map, All, Option, Some, None, option_map, option_copied, IfOk, IfSome, OnOk};
 ghost use Rattle.std.specs.Arc.{arc_value};
 ghost use Rattle.rs_attrs.specs.Meaning.{Attribute};
 ghost use Rattle.rs_octets.specs.Prefixes.{Prefix};
@@ -8,7 +9,7 @@ ghost use Rattle.rs_adjin.specs.AdjIns.{number_of};
 ghost use Rattle.rs_outlet.specs.declared.answers.Speech.{Speech};
 ghost use Rattle.rs_outlet.specs.Decided.Due.{due_to};
 ghost use Rattle.rs_outlet.specs.Decided.HeldBy.{held_by, AreOfOneServer};
-ghost use Rattle.rs_outlet.specs.Decided.Precedents.{AreDueAlike, AreKnown, IsDecidedSo};
+ghost use Rattle.rs_outlet.specs.Decided.Precedents.{AreAlikeForAll, AreDueAlike, AreKnown, IsDecidedSo};
 ghost use Rattle.rs_outlet.specs.Inside.{attributes_at};
 
 use crate::by_number::first_from;
@@ -17,7 +18,9 @@ use crate::chosen::is_absent;
 use crate::deciding::Sources;
 use crate::filled::Whole;
 use crate::table::Rows;
+use rs_adjin::Holders;
 use rs_attrs::Attrs;
+use rs_policy::may_ask_receiver;
 use rs_rows::ROWS;
 use std::alloc::AllocError;
 use std::sync::Arc;
@@ -92,8 +95,21 @@ fn shared(attrs: Option<&Arc<Attrs>>) -> Result<Option<Arc<Attrs>>, AllocError>
     }
 }
 
-/// Lists what is due at a number to those that are decided alike, if the client holds no route there: what was just decided,
-/// or what its row has where that is no change.
+/// Whether it may count to which client with the export rules of this one a route of these holders goes.
+fn may_ask_receivers(sources: &Sources<'_>, holders: Holders<'_>) -> bool
+    requires { sources.now.client < length sources.now.config.now.clients }
+    ensures { result ≡ false → AreAlikeForAll (held_by sources.now) sources.now.client (map (λ h. h.0) holders.entry) }
+{
+    for holder in holders {
+        if may_ask_receiver(sources.config, sources.client, holder.attrs) {
+            return true;
+        }
+    }
+    false
+}
+
+/// Lists what is due at a number to all that have the same export rules and hold no route there, if the client holds none and
+/// these don't ask who a route goes to: what was just decided, or what its row has where that is no change.
 fn list_learned(
     sources: &Sources<'_>,
     rows: &Rows,
@@ -110,6 +126,9 @@ fn list_learned(
     let Some(prefix) = sources.ins.prefix(number) else {
         return Ok(());
     };
+    if may_ask_receivers(sources, sources.ins.at_number(number)) {
+        return Ok(());
+    }
     let due = match change {
         Some(change) => shared(change.due.as_ref())?,
         None => shared(rows.attrs(number))?,

@@ -1,15 +1,14 @@
-//! What was decided for one client, kept for those that are decided alike.
+//! What was decided for one client, kept for those that have the same export rules.
 
 ghost use Rattle.std.specs.Prelude.{◌≡◌, ◌<◌, ℕ, Some, length, map, take, IfOk, IfSome, IsTrue};
 ghost use Rattle.std.specs.List.{AllByRecursion};
 ghost use Rattle.rs_adjin.specs.declared.adj_ins.AdjIns.{AdjIns};
 ghost use Rattle.rs_outlet.specs.declared.answers.Speech.{Speech};
-ghost use Rattle.rs_outlet.specs.Decided.Choices.{AreJudgedAlike};
 ghost use Rattle.rs_outlet.specs.Decided.Due.{Held};
 ghost use Rattle.rs_outlet.specs.Decided.HeldBy.{held_by, AreOfOneServer};
 ghost use Rattle.rs_outlet.specs.Decided.News.{change_of, seen};
 ghost use Rattle.rs_outlet.specs.Decided.Plans.{news_within};
-ghost use Rattle.rs_outlet.specs.Decided.Precedents.{AreDueAlike, AreKnown, IsPrecedent};
+ghost use Rattle.rs_outlet.specs.Decided.Precedents.{AreDueAlike, AreKnown, HaveSameExports, IsPrecedent};
 ghost use Rattle.rs_outlet.specs.declared.precedent.Precedent.{Precedent};
 
 use crate::answers::Speech;
@@ -19,12 +18,11 @@ use crate::deciding::Sources;
 use crate::filled::{Filled, Whole};
 use crate::known::Known;
 use crate::table::Rows;
-use rs_policy::judges_alike;
 use rs_rows::{ROWS, lie_together};
 use std::alloc::{AllocError, Global};
 
-/// What was decided for a client: what is due where it holds no route, which is due to each that is decided alike and holds none
-/// either.
+/// What was decided for a client: what is due where it holds no route, which is due to each that has the same export rules and holds
+/// none either.
 #[derive(Drop)]
 pub(crate) struct Precedent {
     client: usize,
@@ -122,14 +120,14 @@ impl Precedent {
         self.count
     }
 
-    /// Whether it is of a client that is decided as this one is.
+    /// Whether it is of a client that is spoken to as this one is and has the same export rules.
     fn is_alike(&self, sources: &Sources<'_>, speech: Speech) -> bool
         requires own { self.now.client < length sources.now.config.now.clients }
         requires client { sources.now.client < length sources.now.config.now.clients }
         ensures speech { IsTrue result → self.now.speech ≡ speech }
-        ensures rules { IsTrue result → AreJudgedAlike (held_by sources.now) self.now.client sources.now.client }
+        ensures rules { IsTrue result → HaveSameExports (held_by sources.now) self.now.client sources.now.client }
     {
-        self.speech == speech && judges_alike(sources.config, self.client, sources.client)
+        self.speech == speech && sources.config.has_same_exports(self.client, sources.client)
     }
 }
 

@@ -138,6 +138,11 @@ fn list_known(rows: &Rows, known: &Change, changes: &mut Vec<Change>) -> Result<
     )
 }
 
+/// Whether a client holds the prefix of a number: where none does, nothing has to be known of it.
+fn is_held(sources: &Sources<'_>, number: u32) -> bool {
+    !sources.ins.at_number(number).is_empty()
+}
+
 /// Decides the prefix of a number, as it is known, or by the tables.
 fn decide_next<'a>(
     sources: &Sources<'a>,
@@ -157,7 +162,8 @@ fn decide_next<'a>(
     ensures choices { OnOk result (AreChoices (held_by sources.now) sources.now.ins.now draft.new.choices.kept.items) }
     ensures memo { OnOk result (IsMemo sources.now.config.now sources.now.client draft.new.memo) }
 {
-    if let Some(change) = known.find(number)
+    if is_held(sources, number)
+        && let Some(change) = known.find(number)
         && is_absent(sources, number)
     {
         return list_known(rows, change, changes);

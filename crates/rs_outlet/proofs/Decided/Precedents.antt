@@ -1,77 +1,80 @@
--- What was decided for a client that holds no route at a prefix is decided for each that is judged alike and holds none there either.
+-- What was decided for a client that holds no route at a prefix is decided for each that has the same export rules and holds none there
+-- either, where these don't ask who it is.
 use Rattle.std.proofs.Common.{◌≡◌, ◌<◌, ◌+◌, ◌≤◌, ◌∙◌, ℕ, zero, suc, Bool, true, false, ◌||◌, inl, inr, nat_eq, get_or, List, [], ◌∷◌, ◌++◌, Option, Some, None, length, map, take, option_map, refl, sym, ap, subst, arith}
 use Rattle.std.specs.Prelude.{drop, option_and_then, slice_get, unwrap_or}
 use Rattle.std.specs.Map.{keys_of}
 use Rattle.std.specs.Arc.{arc_value}
-use Rattle.std.specs.List.{AllByRecursion, IsDistinct, list_any}
+use Rattle.std.specs.List.{All, AllByRecursion, IsDistinct, list_any}
 use Rattle.std.proofs.lemmas.Bool.Decides.{nat_tests}
 use Rattle.std.proofs.lemmas.List.{append_assoc, append-nil}
 use Rattle.std.proofs.lemmas.Map.Keys.{IsDistinct-head, IsDistinct-tail}
-use Rattle.std.proofs.lemmas.List.Elements.{All-from_recursion}
+use Rattle.std.proofs.lemmas.List.Elements.{All-from_recursion, recursion_from_All}
+use Rattle.std.proofs.lemmas.Option.{same_Some}
 use Rattle.rs_octets.specs.Prefixes.{Prefix}
 use Rattle.rs_attrs.specs.Meaning.{Attribute}
 use Rattle.rs_adjin.specs.declared.adj_ins.AdjIns.{AdjIns}
 use Rattle.rs_adjin.specs.AdjIns.{number_of}
-use Rattle.rs_adjin.specs.Listing.{holders_from, with_holder}
+use Rattle.rs_policy.specs.Alike.{ReceiversAreAlike}
+use Rattle.rs_policy.specs.Verdicts.{verdict}
 use Rattle.rs_decision.specs.Choice.{best_of}
 use Rattle.rs_decision.specs.declared.rank.Rank.{Rank}
 use Rattle.rs_rows.specs.Rows.{Row, row_at}
 use Rattle.rs_outlet.specs.declared.answers.Speech.{Speech}
 use Rattle.rs_outlet.specs.declared.changes.Change.{Change}
 use Rattle.rs_outlet.specs.Inside.{AreDecided, IsChangeAt, IsDecidedAt, IsOwn, attributes_at, numbers_of, shown}
-use Rattle.rs_outlet.specs.Decided.Choices.{AreJudgedAlike}
 use Rattle.rs_outlet.specs.Decided.Due.{Held, due_to, holders_at, if_fits, passed_on, ranks_among, route_from}
 use Rattle.rs_outlet.specs.declared.filled.Whole.{Whole}
 use Rattle.rs_outlet.specs.declared.news.News.{News}
 use Rattle.rs_outlet.specs.Decided.News.{AreFree, change_of, seen}
 use Rattle.rs_outlet.specs.Decided.Plans.{news_within}
-use Rattle.rs_outlet.specs.Decided.Precedents.{AreDecidedAt, AreDueAlike, AreKnown, AreUnheld, IsDueAlike}
+use Rattle.rs_outlet.specs.Decided.Precedents.{AreAlikeForAll, AreDecidedAt, AreDueAlike, AreKnown, AreUnheld, HaveSameExports, IsDueAlike}
 use Rattle.rs_outlet.proofs.Decided.Decisions.{none_decided, one_more_decided}
 use Rattle.rs_outlet.proofs.Decided.Numbering.{number_once}
-use Rattle.rs_outlet.proofs.Decided.Shared.{known_choice, ranks_alike}
+use Rattle.rs_outlet.proofs.Decided.Shared.{IsJudgedAlike, best_has, ranks_same}
 
 -- ---- what is due to both
 
-one_known : (c n : ℕ) (o : Option (List Attribute)) (rest : List (ℕ × List Attribute)) → c < n → AllByRecursion (λ h. h.0 < n) rest → AllByRecursion (λ h. h.0 < n) (with_holder c o rest)
-one_known c n None rest below each = each
-one_known c n (Some m) rest below each = (below, each)
+-- the rules judge the route that a client holds alike on its way to both
+abbrev IsJudgedAlikeOf : Held → ℕ → ℕ → Prefix → ℕ → Type 0
+IsJudgedAlikeOf t c d p from = (m : List Attribute) → t.held from p ≡ Some m → IsJudgedAlike t c d p (from, m)
 
-holders_known : (held : ℕ → Option (List Attribute)) (c k n : ℕ) → c + k ≤ n → AllByRecursion (λ h. h.0 < n) (holders_from held c k)
-holders_known held c zero n below = tt
-holders_known held c (suc k) n below = one_known c n (held c) (holders_from held (suc c) k) (omega (arith, below)) (holders_known held (suc c) k n (omega (arith, below)))
+of_holder : (t : Held) (c d : ℕ) (p : Prefix) (h : ℕ × List Attribute) → IsJudgedAlike t c d p h → t.held h.0 p ≡ Some h.1 → IsJudgedAlikeOf t c d p h.0
+of_holder t c d p h same held m is = subst (λ m. IsJudgedAlike t c d p (h.0, m)) (same_Some h.1 m (sym held ∙ is)) same
 
-one_held : (held : ℕ → Option (List Attribute)) (c : ℕ) (o : Option (List Attribute)) (rest : List (ℕ × List Attribute)) → held c ≡ o → AllByRecursion (λ h. held h.0 ≡ Some h.1) rest → AllByRecursion (λ h. held h.0 ≡ Some h.1) (with_holder c o rest)
-one_held held c None rest is each = each
-one_held held c (Some m) rest is each = (is, each)
+of_holders : (t : Held) (c d : ℕ) (p : Prefix) (hs : List (ℕ × List Attribute)) → AllByRecursion (IsJudgedAlike t c d p) hs → AllByRecursion (λ h. t.held h.0 p ≡ Some h.1) hs → AllByRecursion (λ h. IsJudgedAlikeOf t c d p h.0) hs
+of_holders t c d p [] same each = tt
+of_holders t c d p (h ∷ hs) same each = (of_holder t c d p h same.0 each.0, of_holders t c d p hs same.1 each.1)
 
-holders_held : (held : ℕ → Option (List Attribute)) (c k : ℕ) → AllByRecursion (λ h. held h.0 ≡ Some h.1) (holders_from held c k)
-holders_held held c zero = tt
-holders_held held c (suc k) = one_held held c (held c) (holders_from held (suc c) k) refl (holders_held held (suc c) k)
-
-route_alike : (t : Held) (c d : ℕ) (speech : Speech) (p : Prefix) (from : ℕ) → AreJudgedAlike t c d → from < length t.settings.clients → route_from t c speech p from ≡ route_from t d speech p from
-route_alike t c d speech p from alike known = λ i. option_and_then (if_fits speech p) (option_and_then (λ m. passed_on m (alike from p m known i)) (t.held from p))
+route_passed : (t : Held) (c d : ℕ) (speech : Speech) (p : Prefix) (from : ℕ) (m : Option (List Attribute)) → t.held from p ≡ m → IsJudgedAlikeOf t c d p from → route_from t c speech p from ≡ route_from t d speech p from
+route_passed t c d speech p from None is same = ap (λ o. option_and_then (if_fits speech p) (option_and_then (λ m. passed_on m (verdict t.settings from c p m)) o)) is ∙ sym (ap (λ o. option_and_then (if_fits speech p) (option_and_then (λ m. passed_on m (verdict t.settings from d p m)) o)) is)
+route_passed t c d speech p from (Some m) is same =
+    ap (λ o. option_and_then (if_fits speech p) (option_and_then (λ m. passed_on m (verdict t.settings from c p m)) o)) is
+    ∙ ap (λ j. option_and_then (if_fits speech p) (passed_on m j)) (same m is)
+    ∙ sym (ap (λ o. option_and_then (if_fits speech p) (option_and_then (λ m. passed_on m (verdict t.settings from d p m)) o)) is)
 
 abbrev from_best : Held → ℕ → Speech → Prefix → Option Rank → Option (List Attribute)
 from_best t c speech p best = option_and_then (λ best. route_from t c speech p best.place) best
 
--- who is judged alike and holds nothing at a prefix is due the same there
-pub due_alike : (t : Held) (c d : ℕ) (speech : Speech) (p : Prefix) → t.count ≡ length t.settings.clients → AreJudgedAlike t c d → t.held c p ≡ None → t.held d p ≡ None → due_to t c speech p ≡ due_to t d speech p
-due_alike t c d speech p count alike none nor = by_best (best_of (ranks_among t c p hs)) refl ∙ ap (λ ranks. from_best t d speech p (best_of ranks)) same
+-- of which routes the same becomes for both, and who hold nothing at a prefix, are due the same there
+due_alike : (t : Held) (c d : ℕ) (speech : Speech) (p : Prefix) (hs : List (ℕ × List Attribute)) → hs ≡ holders_at t p → AllByRecursion (IsJudgedAlike t c d p) hs → AllByRecursion (λ h. t.held h.0 p ≡ Some h.1) hs
+    → t.held c p ≡ None → t.held d p ≡ None → due_to t c speech p ≡ due_to t d speech p
+due_alike t c d speech p hs all alike each none nor =
+    ap (λ hs. from_best t c speech p (best_of (ranks_among t c p hs))) (sym all)
+    ∙ by_best (best_of (ranks_among t c p hs)) refl
+    ∙ ap (λ ranks. from_best t d speech p (best_of ranks)) (ranks_same t c d p hs alike none nor each)
+    ∙ ap (λ hs. from_best t d speech p (best_of (ranks_among t d p hs))) all
   where
-    hs : List (ℕ × List Attribute)
-    hs = holders_at t p
-
-    known : AllByRecursion (λ h. h.0 < length t.settings.clients) hs
-    known = holders_known (λ d. t.held d p) 0 t.count (length t.settings.clients) (omega (arith, count))
-
-    same : ranks_among t c p hs ≡ ranks_among t d p hs
-    same = ranks_alike t c d p hs alike none nor known (holders_held (λ d. t.held d p) 0 t.count)
-
-    by_best : (best : Option Rank) → best_of (ranks_among t c p hs) ≡ best → due_to t c speech p ≡ from_best t d speech p (best_of (ranks_among t c p hs))
+    by_best : (best : Option Rank) → best_of (ranks_among t c p hs) ≡ best → from_best t c speech p (best_of (ranks_among t c p hs)) ≡ from_best t d speech p (best_of (ranks_among t c p hs))
     by_best None found = ap (from_best t c speech p) found ∙ sym (ap (from_best t d speech p) found)
     by_best (Some r) found =
-        let below : r.place < length t.settings.clients = known_choice (length t.settings.clients) t c p hs r.place refl (All-from_recursion (λ h. h.0 < length t.settings.clients) hs known) (ap (option_map (λ (r : Rank). r.place)) found) in
-        ap (from_best t c speech p) found ∙ route_alike t c d speech p r.place alike below ∙ sym (ap (from_best t d speech p) found)
+        ap (from_best t c speech p) found
+        ∙ route_passed t c d speech p r.place (t.held r.place p) refl (best_has (IsJudgedAlikeOf t c d p) t c p hs r found (of_holders t c d p hs alike each))
+        ∙ sym (ap (from_best t d speech p) found)
+
+-- those that have the same export rules judge the routes of holders alike, where it doesn't count who they go to
+judged_for_all : (t : Held) (c d : ℕ) (p : Prefix) (hs : List (ℕ × List Attribute)) → HaveSameExports t c d → AllByRecursion (λ h. h.0 < length t.settings.clients) hs → AllByRecursion (λ h. ReceiversAreAlike t.settings c h.1) hs → AllByRecursion (IsJudgedAlike t c d p) hs
+judged_for_all t c d p [] same known alike = tt
+judged_for_all t c d p (h ∷ hs) same known alike = (alike.0 h.0 d p known.0 same, judged_for_all t c d p hs same known.1 alike.1)
 
 -- ---- changes, whoever owns their attributes
 
@@ -91,36 +94,45 @@ all_seen P cs ds same all = all_back P ds (subst (AllByRecursion P) (sym same) (
 
 -- ---- what is due alike
 
-pub alike_itself : (t : Held) (c : ℕ) → AreJudgedAlike t c c
-alike_itself t c = λ from p m known. refl
-
-due_alike_too : (t : Held) (ins : AdjIns) (c d : ℕ) (speech : Speech) (it : Seen) → AreJudgedAlike t c d → IsDueAlike t ins c speech it → IsDueAlike t ins d speech it
+due_alike_too : (t : Held) (ins : AdjIns) (c d : ℕ) (speech : Speech) (it : Seen) → HaveSameExports t c d → IsDueAlike t ins c speech it → IsDueAlike t ins d speech it
 due_alike_too t ins c d speech it alike h = record {
   placed = h.placed;
-  due = λ e too none. h.due e (λ from p m known. alike from p m known ∙ too from p m known) none;
+  due = λ e too none. h.due e (alike ∙ too) none;
 }
 
-are_due_too : (t : Held) (ins : AdjIns) (c d : ℕ) (speech : Speech) (cs : List Change) → AreJudgedAlike t c d → AreDueAlike t ins c speech cs → AreDueAlike t ins d speech cs
+are_due_too : (t : Held) (ins : AdjIns) (c d : ℕ) (speech : Speech) (cs : List Change) → HaveSameExports t c d → AreDueAlike t ins c speech cs → AreDueAlike t ins d speech cs
 are_due_too t ins c d speech [] alike h = tt
 are_due_too t ins c d speech (x ∷ cs) alike h = (due_alike_too t ins c d speech (seen x) alike h.0, are_due_too t ins c d speech cs alike h.1)
 
-wholes_too : (t : Held) (ins : AdjIns) (c d : ℕ) (speech : Speech) (ws : List Whole) → AreJudgedAlike t c d → AllByRecursion (λ w. AreDueAlike t ins c speech (map change_of (news_within w))) ws
+wholes_too : (t : Held) (ins : AdjIns) (c d : ℕ) (speech : Speech) (ws : List Whole) → HaveSameExports t c d → AllByRecursion (λ w. AreDueAlike t ins c speech (map change_of (news_within w))) ws
     → AllByRecursion (λ w. AreDueAlike t ins d speech (map change_of (news_within w))) ws
 wholes_too t ins c d speech [] alike h = tt
 wholes_too t ins c d speech (w ∷ ws) alike h = (are_due_too t ins c d speech (map change_of (news_within w)) alike h.0, wholes_too t ins c d speech ws alike h.1)
 
--- what is known for one is known for another that is judged alike
-pub known_too : (t : Held) (ins : AdjIns) (c d : ℕ) (speech : Speech) (cs : List Change) (ws : List Whole) → AreJudgedAlike t c d → AreKnown t ins c speech cs ws → AreKnown t ins d speech cs ws
+-- what is known for one is known for another that has the same export rules
+pub known_too : (t : Held) (ins : AdjIns) (c d : ℕ) (speech : Speech) (cs : List Change) (ws : List Whole) → HaveSameExports t c d → AreKnown t ins c speech cs ws → AreKnown t ins d speech cs ws
 known_too t ins c d speech cs ws alike h = record {
   changes = are_due_too t ins c d speech cs alike h.changes;
   wholes = wholes_too t ins c d speech ws alike h.wholes;
 }
 
--- what is due to a client that holds nothing is due alike
-pub learned_here : (t : Held) (ins : AdjIns) (c : ℕ) (speech : Speech) (it : Seen) → t.count ≡ length t.settings.clients → number_of ins it.0.1 ≡ Some it.0.0 → t.held c it.0.1 ≡ None → it.1 ≡ due_to t c speech it.0.1 → IsDueAlike t ins c speech it
-learned_here t ins c speech it count placed none is = record {
+-- one more holder
+pub alike_with : (t : Held) (c : ℕ) (h : ℕ × List Attribute) (hs : List (ℕ × List Attribute)) → ReceiversAreAlike t.settings c h.1 → AreAlikeForAll t c hs → AreAlikeForAll t c (h ∷ hs)
+alike_with t c h hs this rest =
+    let P = λ (h : ℕ × List Attribute). ReceiversAreAlike t.settings c h.1 in
+    All-from_recursion P (h ∷ hs) (this, recursion_from_All P hs rest)
+
+-- what is due to a client that holds nothing is due alike, where it doesn't count who the routes go to
+pub learned_here : (t : Held) (ins : AdjIns) (c : ℕ) (speech : Speech) (it : Seen) (hs : List (ℕ × List Attribute)) → hs ≡ holders_at t it.0.1 → All (λ h. h.0 < length t.settings.clients) hs → All (λ h. t.held h.0 it.0.1 ≡ Some h.1) hs → AreAlikeForAll t c hs
+    → number_of ins it.0.1 ≡ Some it.0.0 → t.held c it.0.1 ≡ None → it.1 ≡ due_to t c speech it.0.1 → IsDueAlike t ins c speech it
+learned_here t ins c speech it hs all known each alike placed none is = record {
   placed = placed;
-  due = λ d alike nor. sym (due_alike t c d speech it.0.1 count alike none nor) ∙ sym is;
+  due = λ d same nor.
+      sym
+      (due_alike t c d speech it.0.1 hs all
+      (judged_for_all t c d it.0.1 hs same (recursion_from_All (λ h. h.0 < length t.settings.clients) hs known) (recursion_from_All (λ h. ReceiversAreAlike t.settings c h.1) hs alike))
+      (recursion_from_All (λ h. t.held h.0 it.0.1 ≡ Some h.1) hs each) none nor)
+      ∙ sym is;
 }
 
 pub due_more : (t : Held) (ins : AdjIns) (c : ℕ) (speech : Speech) (cs : List Change) (x : Change) → AreDueAlike t ins c speech cs → IsDueAlike t ins c speech (seen x) → AreDueAlike t ins c speech (cs ++ x ∷ [])
@@ -198,7 +210,7 @@ change_here t ins c speech rows n x h is unheld free =
     record {
       number = is;
       placed = placed;
-      due = sym (h.due c (alike_itself t c) (unheld x.prefix placed));
+      due = sym (h.due c refl (unheld x.prefix placed));
       own = free_is_own rows n x.prefix free;
     }
 
@@ -213,7 +225,7 @@ nothing_here : (t : Held) (ins : AdjIns) (c : ℕ) (speech : Speech) (rows : Lis
 nothing_here t ins c speech rows n x h is none unheld free p at =
     let placed : number_of ins x.prefix ≡ Some n = h.placed ∙ ap (λ k. Some k) is in
     let same : p ≡ x.prefix = number_once ins p x.prefix n at placed in
-    ap shown free ∙ sym (ap (option_map arc_value) none) ∙ sym (h.due c (alike_itself t c) (unheld x.prefix placed)) ∙ ap (due_to t c speech) (sym same)
+    ap shown free ∙ sym (ap (option_map arc_value) none) ∙ sym (h.due c refl (unheld x.prefix placed)) ∙ ap (due_to t c speech) (sym same)
 
 pub one_here : (t : Held) (ins : AdjIns) (c : ℕ) (speech : Speech) (rows : List (Option Row)) (n : ℕ) (x : Change) (news : News) → IsDueAlike t ins c speech (seen x) → x.number ≡ n → seen (change_of news) ≡ seen x
     → ((p : Prefix) → number_of ins p ≡ Some n → t.held c p ≡ None) → row_at rows n ≡ None → (old new : List Change) → new ≡ old ++ change_of news ∷ [] → AreDecidedAt ins (due_to t c speech) rows (n ∷ []) old new

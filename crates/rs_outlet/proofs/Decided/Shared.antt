@@ -7,6 +7,7 @@ use Rattle.std.proofs.lemmas.List.Elements.{All-from_recursion, recursion_from_A
 use Rattle.rs_octets.specs.Prefixes.{Prefix}
 use Rattle.rs_attrs.specs.Meaning.{Attribute}
 use Rattle.rs_attrs.specs.Getters.{path_has_of}
+use Rattle.rs_policy.specs.Verdicts.{verdict}
 use Rattle.rs_decision.proofs.Chosen.{best_is_unbeaten}
 use Rattle.rs_decision.specs.Choice.{best_of}
 use Rattle.rs_decision.specs.declared.rank.Rank.{Rank}
@@ -31,17 +32,32 @@ differs a c other = grind (arith, nat_tests, other)
 pub not_it : {X : Type 0} (held : ℕ → Option X) (a c : ℕ) (m : X) → held a ≡ Some m → held c ≡ None → a ≢ c
 not_it held a c m there none = λ same. absurd (let f : None ≡ Some m = sym none ∙ ap held (sym same) ∙ there in (cc))
 
-pub rank_alike : (t : Held) (c d : ℕ) (p : Prefix) (h : ℕ × List Attribute) → AreJudgedAlike t c d → h.0 < length t.settings.clients → h.0 ≢ c → h.0 ≢ d → rank_to t c p h ≡ rank_to t d p h
-rank_alike t c d p h alike known one other = λ i.
-    cond (((differs h.0 c one ∙ sym (differs h.0 d other)) i) || path_has_of t.settings.top.server_as h.1) None (rank_by t h.0 h.1 (alike h.0 p h.1 known i))
+-- a holder's route is judged alike on its way to both
+abbrev pub IsJudgedAlike : Held → ℕ → ℕ → Prefix → ℕ × List Attribute → Type 0
+IsJudgedAlike t c d p h = verdict t.settings h.0 c p h.1 ≡ verdict t.settings h.0 d p h.1
 
-pub ranks_alike : (t : Held) (c d : ℕ) (p : Prefix) (hs : List (ℕ × List Attribute)) → AreJudgedAlike t c d → t.held c p ≡ None → t.held d p ≡ None
-    → AllByRecursion (λ h. h.0 < length t.settings.clients) hs → AllByRecursion (λ h. t.held h.0 p ≡ Some h.1) hs → ranks_among t c p hs ≡ ranks_among t d p hs
-ranks_alike t c d p [] alike none nor known each = refl
-ranks_alike t c d p (h ∷ hs) alike none nor known each = λ i.
+rank_same : (t : Held) (c d : ℕ) (p : Prefix) (h : ℕ × List Attribute) → IsJudgedAlike t c d p h → h.0 ≢ c → h.0 ≢ d → rank_to t c p h ≡ rank_to t d p h
+rank_same t c d p h same one other = λ i.
+    cond (((differs h.0 c one ∙ sym (differs h.0 d other)) i) || path_has_of t.settings.top.server_as h.1) None (rank_by t h.0 h.1 (same i))
+
+pub rank_alike : (t : Held) (c d : ℕ) (p : Prefix) (h : ℕ × List Attribute) → AreJudgedAlike t c d → h.0 < length t.settings.clients → h.0 ≢ c → h.0 ≢ d → rank_to t c p h ≡ rank_to t d p h
+rank_alike t c d p h alike known one other = rank_same t c d p h (alike h.0 p h.1 known) one other
+
+pub ranks_same : (t : Held) (c d : ℕ) (p : Prefix) (hs : List (ℕ × List Attribute)) → AllByRecursion (IsJudgedAlike t c d p) hs → t.held c p ≡ None → t.held d p ≡ None
+    → AllByRecursion (λ h. t.held h.0 p ≡ Some h.1) hs → ranks_among t c p hs ≡ ranks_among t d p hs
+ranks_same t c d p [] same none nor each = refl
+ranks_same t c d p (h ∷ hs) same none nor each = λ i.
     cons_option
-    (rank_alike t c d p h alike known.0 (not_it (λ k. t.held k p) h.0 c h.1 each.0 none) (not_it (λ k. t.held k p) h.0 d h.1 each.0 nor) i)
-    (ranks_alike t c d p hs alike none nor known.1 each.1 i)
+    (rank_same t c d p h same.0 (not_it (λ k. t.held k p) h.0 c h.1 each.0 none) (not_it (λ k. t.held k p) h.0 d h.1 each.0 nor) i)
+    (ranks_same t c d p hs same.1 none nor each.1 i)
+
+all_judged : (t : Held) (c d : ℕ) (p : Prefix) (hs : List (ℕ × List Attribute)) → AreJudgedAlike t c d → AllByRecursion (λ h. h.0 < length t.settings.clients) hs → AllByRecursion (IsJudgedAlike t c d p) hs
+all_judged t c d p [] alike known = tt
+all_judged t c d p (h ∷ hs) alike known = (alike h.0 p h.1 known.0, all_judged t c d p hs alike known.1)
+
+ranks_alike : (t : Held) (c d : ℕ) (p : Prefix) (hs : List (ℕ × List Attribute)) → AreJudgedAlike t c d → t.held c p ≡ None → t.held d p ≡ None
+    → AllByRecursion (λ h. h.0 < length t.settings.clients) hs → AllByRecursion (λ h. t.held h.0 p ≡ Some h.1) hs → ranks_among t c p hs ≡ ranks_among t d p hs
+ranks_alike t c d p hs alike none nor known each = ranks_same t c d p hs (all_judged t c d p hs alike known) none nor each
 
 pub same_choice : (t : Held) (c d : ℕ) (p : Prefix) (hs : List (ℕ × List Attribute)) → hs ≡ holders_at t p → AreJudgedAlike t c d → t.held c p ≡ None → t.held d p ≡ None
     → All (λ h. h.0 < length t.settings.clients) hs → All (λ h. t.held h.0 p ≡ Some h.1) hs → chosen t c p ≡ chosen t d p
@@ -78,6 +94,13 @@ nothing_from t c speech p (Some r) is = absurd (cc is)
 
 pub nothing_due : (t : Held) (c : ℕ) (speech : Speech) (p : Prefix) → chosen t c p ≡ None → None ≡ due_to t c speech p
 nothing_due t c speech p is = nothing_from t c speech p (best_of (ranks_among t c p (holders_at t p))) is
+
+-- what holds of each holder holds of the one whose rank is the best
+pub best_has : (P : ℕ → Type 0) (t : Held) (c : ℕ) (p : Prefix) (hs : List (ℕ × List Attribute)) (r : Rank) → best_of (ranks_among t c p hs) ≡ Some r → AllByRecursion (λ h. P h.0) hs → P r.place
+best_has P t c p hs r found each =
+    let ranks = ranks_among t c p hs in
+    let member : Contains ranks r = (best_is_unbeaten ranks r found).member in
+    subst (λ (s : Rank). P s.place) member.2 (All-from_recursion (λ (s : Rank). P s.place) ranks (each_place P t c p hs each) member.0 r member.1)
 
 -- the sender that is chosen is a client that there is
 pub known_choice : (n : ℕ) (t : Held) (c : ℕ) (p : Prefix) (hs : List (ℕ × List Attribute)) (place : ℕ) → hs ≡ holders_at t p → All (λ h. h.0 < n) hs → chosen t c p ≡ Some place → place < n

@@ -1,7 +1,7 @@
--- What was decided for a client, which serves those that are decided alike.
+-- What was decided for a client, which serves those that have the same export rules.
 use Rattle.std.specs.Prelude.{◌≡◌, ◌<◌, ℕ, List, [], ◌∷◌, length, map, option_map, unwrap_or, Option, Some, None}
 use Rattle.std.specs.Arc.{arc_value}
-use Rattle.std.specs.List.{AllByRecursion}
+use Rattle.std.specs.List.{All, AllByRecursion}
 use Rattle.rs_octets.specs.Prefixes.{Prefix}
 use Rattle.rs_attrs.specs.Meaning.{Attribute}
 use Rattle.rs_adjin.specs.AdjIns.{number_of}
@@ -13,16 +13,27 @@ use Rattle.rs_outlet.specs.declared.filled.Whole.{Whole}
 use Rattle.rs_outlet.specs.declared.precedent.Precedent.{Precedent}
 use Rattle.rs_outlet.specs.declared.handover.Handover.{Handover}
 use Rattle.rs_outlet.specs.Inside.{IsDecidedAt, attributes_at}
-use Rattle.rs_outlet.specs.Decided.Choices.{AreChoices, AreJudgedAlike}
+use Rattle.rs_policy.specs.Alike.{ReceiversAreAlike}
+use Rattle.rs_policy.specs.Configuration.{policy_of}
+use Rattle.rs_outlet.specs.Decided.Choices.{AreChoices}
 use Rattle.rs_outlet.specs.Decided.Due.{Held, due_to}
 use Rattle.rs_outlet.specs.Decided.News.{change_of, seen}
 use Rattle.rs_outlet.specs.Decided.Plans.{news_within}
 
--- what a change has is due to each client that is judged as this one is and holds no route for its prefix
+-- two clients have the same export rules
+abbrev pub HaveSameExports : Held → ℕ → ℕ → Type 0
+HaveSameExports t c d = (policy_of t.settings c).export ≡ (policy_of t.settings d).export
+
+-- it doesn't count to which client with these export rules the routes of these holders go
+abbrev pub AreAlikeForAll : Held → ℕ → List (ℕ × List Attribute) → Type 0
+AreAlikeForAll t c holders = All (λ h. ReceiversAreAlike t.settings c h.1) holders
+
+-- what a change has is due to each client that has the export rules of this one and holds no route for its prefix
 pub record IsDueAlike (t : Held) (ins : AdjIns) (c : ℕ) (speech : Speech) (it : (ℕ × Prefix) × Option (List Attribute)) : Type 0 where
   pub placed : number_of ins it.0.1 ≡ Some it.0.0
-  pub due : (d : ℕ) → AreJudgedAlike t c d → t.held d it.0.1 ≡ None → due_to t d speech it.0.1 ≡ it.1
+  pub due : (d : ℕ) → HaveSameExports t c d → t.held d it.0.1 ≡ None → due_to t d speech it.0.1 ≡ it.1
 
+-- so it is with what each of these changes has
 abbrev pub AreDueAlike : Held → AdjIns → ℕ → Speech → List Change → Type 0
 AreDueAlike t ins c speech changes = AllByRecursion (λ it. IsDueAlike t ins c speech (seen it)) changes
 
@@ -31,6 +42,7 @@ pub record AreKnown (t : Held) (ins : AdjIns) (c : ℕ) (speech : Speech) (cs : 
   pub changes : AreDueAlike t ins c speech cs
   pub wholes : AllByRecursion (λ w. AreDueAlike t ins c speech (map change_of (news_within w))) ws
 
+-- what was decided for a client that there is
 pub record IsPrecedent (t : Held) (ins : AdjIns) (it : Precedent) : Type 0 where
   pub client : it.client < length t.settings.clients
   pub known : AreKnown t ins it.client it.speech it.changes.items it.wholes.items

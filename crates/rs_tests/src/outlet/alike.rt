@@ -38,6 +38,20 @@ const DECIDED_ALIKE: &str = concat!(
     "export = [{ action = \"pass\", strip = [\"64512:2\"] }]\n",
 );
 
+/// Three members that use the same rules, which name the receiver.
+const NAMING_THE_RECEIVER: &str = concat!(
+    "as = 64500\nidentifier = \"192.0.2.1\"\n",
+    "[[rules]]\nname = \"actions\"\nrules = [{ community = \"0:peer\", action = \"drop\" }, ",
+    "{ action = \"pass\", strip = [\"64512:1\"] }]\n",
+    "[[client]]\nname = \"a\"\nas = 64512\nlisten = \"127.0.0.1:17901\"\npeer = \"127.0.1.1\"\n",
+    "[[client]]\nname = \"b\"\nas = 64513\nlisten = \"127.0.0.1:17901\"\npeer = \"127.0.1.2\"\n",
+    "export = [{ use = \"actions\" }]\n",
+    "[[client]]\nname = \"c\"\nas = 64514\nlisten = \"127.0.0.1:17901\"\npeer = \"127.0.1.3\"\n",
+    "export = [{ use = \"actions\" }]\n",
+    "[[client]]\nname = \"d\"\nas = 64515\nlisten = \"127.0.0.1:17901\"\npeer = \"127.0.1.4\"\n",
+    "export = [{ use = \"actions\" }]\n",
+);
+
 /// A sender, and a member to which 18 rules take 64512:1 out of routes with another community, by patterns of their own.
 const MANY_STRIPS: &str = concat!(
     "as = 64500\nidentifier = \"192.0.2.1\"\n",
@@ -289,6 +303,55 @@ fn what_was_decided_serves_one_that_was_touched_at_more(rt: HostRuntime) {
     );
     have_owners(&rt, &exchange, &alike, SETS, 2);
     have_owners_in(&rt, &exchange, &first, BLOCK..count, 2);
+    let_go(exchange, first);
+}
+
+/// What was decided by rules that name the receiver serves the next one where no community does.
+#[test]
+fn what_was_decided_serves_those_whom_no_community_names(rt: HostRuntime) {
+    let mut exchange = Exchange::of(&rt, rt.alloc(), NAMING_THE_RECEIVER);
+    let mut first = waiting(&rt, &exchange, CLIENT);
+    let mut alike = waiting(&rt, &exchange, CLIENT + 1);
+    let mut other = waiting(&rt, &exchange, CLIENT + 2);
+    announce(&rt, &mut exchange, SETS, 2, false);
+    let count = u32::from(SETS) * 2;
+    turn_three(&rt, &exchange, count, &mut first, &mut alike, &mut other);
+    have_owners(&rt, &exchange, &first, SETS, 2);
+    have_owners(&rt, &exchange, &alike, SETS, 2);
+    have_owners(&rt, &exchange, &other, SETS, 2);
+    let_go(exchange, first);
+}
+
+/// A route of which a community names one receiver is due to the others, before and behind that one, and what is due elsewhere is
+/// what was decided for the first one.
+#[test]
+fn whom_a_community_names_is_decided_alone(rt: HostRuntime) {
+    let mut exchange = Exchange::of(&rt, rt.alloc(), NAMING_THE_RECEIVER);
+    let mut first = waiting(&rt, &exchange, CLIENT);
+    let mut named = waiting(&rt, &exchange, CLIENT + 1);
+    let mut other = waiting(&rt, &exchange, CLIENT + 2);
+    announce(&rt, &mut exchange, SETS, 2, false);
+    // 0:64514
+    let field = [
+        0x40, 1, 1, 0, 0x40, 2, 6, 2, 1, 0, 0, 0xfc, 0, 0x40, 3, 4, 0xc0, 0, 2, 200, 0xc0, 8, 4, 0,
+        0, 0xfc, 2,
+    ];
+    let set = shared(&rt, exchange.alloc, &field);
+    exchange.announce(&rt, 0, &set);
+    let count = u32::from(SETS) * 2;
+    turn_three(&rt, &exchange, count, &mut first, &mut named, &mut other);
+    equals(&rt, host_of(&rt, &exchange, &first), 200);
+    equals(&rt, host_of(&rt, &exchange, &other), 200);
+    equals(
+        &rt,
+        named.route(&prefix(&rt, 0), &exchange.tables).is_none(),
+        true,
+    );
+    equals(
+        &rt,
+        named.route(&prefix(&rt, 1), &exchange.tables).is_none(),
+        false,
+    );
     let_go(exchange, first);
 }
 

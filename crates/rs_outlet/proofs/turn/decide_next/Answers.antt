@@ -1,11 +1,10 @@
-use Rattle.std.proofs.Common.{◌≡◌, ◌∙◌, Some, ap, sym, subst}
+use Rattle.std.proofs.Common.{◌≡◌, ◌∙◌, Some, ap, refl, sym, subst}
 use Rattle.std.specs.Prelude.{OnOk}
 use Rattle.rs_adjin.specs.AdjIns.{number_of}
 use Rattle.rs_outlet.specs.Decided.Due.{due_to}
 use Rattle.rs_outlet.specs.Decided.HeldBy.{held_by}
 use Rattle.rs_outlet.specs.Inside.{IsDecidedAt}
 use Rattle.rs_outlet.proofs.Answered.{if_some_at}
-use Rattle.rs_outlet.proofs.Decided.Precedents.{alike_itself}
 use Rattle.rs_outlet.proofs.turn.decide_next.Goals as goal
 
 pub returns-clause-changes : goal.returns-clause-changes
@@ -16,6 +15,6 @@ returns-clause-changes c =
     let h = if_some_at _ c.find.result c.in-Some.change c.in-Some.is (c.find.ensures.due t s.ins.now s.client c.args.speech c.requires.known) in
     let is : k.number ≡ c.args.number = if_some_at _ c.find.result c.in-Some.change c.in-Some.is c.find.ensures.number in
     let placed : number_of s.ins.now k.prefix ≡ Some c.args.number = h.placed ∙ ap (λ n. Some n) is in
-    let due = sym (h.due s.client (alike_itself t s.client) (c.is_absent.ensures c.if-is_absent.true k.prefix placed)) in
+    let due = sym (h.due s.client refl (c.is_absent.ensures c.if-is_absent.true k.prefix placed)) in
     subst (λ n. OnOk c.list_known.result (IsDecidedAt s.ins.now (due_to t s.client c.args.speech) c.args.rows.now.rows.items n c.args.changes.now.items c.list_known.new.changes.items)) is
     (c.list_known.ensures s.ins.now (due_to t s.client c.args.speech) h.placed due)
