@@ -44,6 +44,7 @@ from plays.requests import play_requests
 from plays.rules import ROUTES, SEED, play_rules
 from plays.server import play_members
 from plays.sessions import play
+from plays.shared import play_shared
 from plays.sweeps import play_sweeps
 from plays.window import play_window
 from plays.without_memory import play_memory
@@ -177,6 +178,7 @@ def play_all(crates, folder):
     yield from play_refused(replay, folder)
     yield from fuzz(replay, CASES, time.time_ns() % 2**32)
     yield from play_rules(replay, ROUTES, SEED)
+    yield from play_shared(replay)
     yield from play_faults(replay)
     yield from play_matching(replay)
     yield from play_filtering(replay)
