@@ -6,7 +6,7 @@ seconds, at the processes of the prover and of the compilers; from that it print
 proofs and tests took. Then it tries the wrong programs of must-fail, which the prover must refuse, over what was proved. Then it plays each session of examples/sessions to the built rs_replay, and two members to the
 built rs_served, records one and plays the record, and gives both programs configurations. It holds what the members of these sessions are sent against the
 plain function (`plain`): of their fronts, with losses, cut and changed octets, refused memory and without threads, and of random
-sessions. It plays hostile members to the built rs_served, those whose play takes seconds. It runs tests
+sessions; and those by rules that members share against those by the same rules of each one's own. It plays hostile members to the built rs_served, those whose play takes seconds. It runs tests
 of calls that take no memory where requests are counted and a test of outlets where memory is refused, compares the example
 configurations with those that are tested, and looks whether the edits of wrong programs still apply, and what the pages name is
 there. What failed is said once more at the end. The last line is 'N passed, M failed' over all of it; the exit status is 0 where

@@ -38,7 +38,7 @@ const DECIDED_ALIKE: &str = concat!(
     "export = [{ action = \"pass\", strip = [\"64512:2\"] }]\n",
 );
 
-/// Three members that use the same rules, which name the receiver.
+/// A sender, and three members that use the same rules, which name the receiver.
 const NAMING_THE_RECEIVER: &str = concat!(
     "as = 64500\nidentifier = \"192.0.2.1\"\n",
     "[[rules]]\nname = \"actions\"\nrules = [{ community = \"0:peer\", action = \"drop\" }, ",
@@ -322,8 +322,8 @@ fn what_was_decided_serves_those_whom_no_community_names(rt: HostRuntime) {
     let_go(exchange, first);
 }
 
-/// A route of which a community names one receiver is due to the others, before and behind that one, and what is due elsewhere is
-/// what was decided for the first one.
+/// A route of which a community names one receiver is due to the others, before and behind that one, and not to it; what is due to
+/// it elsewhere is.
 #[test]
 fn whom_a_community_names_is_decided_alone(rt: HostRuntime) {
     let mut exchange = Exchange::of(&rt, rt.alloc(), NAMING_THE_RECEIVER);

@@ -110,7 +110,7 @@ const ACTIONS: &str = concat!(
     "{ large_community = \"64500:0:peer\", action = \"drop\" }, { community = \"0:64500\", action = \"drop\" }]\n",
 );
 
-/// COMMUNITIES, if any, behind the attributes of `ROUTE`.
+/// The attributes of `ROUTE`, and behind them what these octets spell, if anything.
 fn with_communities(rt: &impl Abort, alloc: Global, octets: &[u8]) -> Attrs {
     let mut field = Vec::from_slice(alloc, &ROUTE).expect(rt, "octets");
     field.extend_from_slice(octets).expect(rt, "more octets");
@@ -123,7 +123,7 @@ static ASKING: [(&[u8], bool); 7] = [
     // 64500:1, and 1:64500
     (&[0xc0, 8, 4, 0xfb, 0xf4, 0, 1], false),
     (&[0xc0, 8, 4, 0, 1, 0xfb, 0xf4], false),
-    // to the member 64497, to another one, and to none
+    // 0:64497, a member, and 0:7, none, beside 64500:1
     (&[0xc0, 8, 4, 0, 0, 0xfb, 0xf1], true),
     (&[0xc0, 8, 8, 0xfb, 0xf4, 0, 1, 0, 0, 0, 7], true),
     // 64500:0:65551, and 64500:1:65551
