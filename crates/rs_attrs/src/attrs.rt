@@ -3,7 +3,7 @@
 //! A head for each attribute, by rising type, and one run of octets, their values one after the
 //! other: two heap blocks, however many attributes there are. Whatever makes an `Attrs` proves that
 //! the heads have the lengths of the values and that the attributes are legal. Their hash and the
-//! marks of their path are made with them, and kept.
+//! marks of their path and communities are made with them, and kept.
 
 ghost use Rattle.std.specs.Prelude.{◌≡◌, ◌↔◌, IsTrue, length, refl};
 ghost use Rattle.std.specs.Ordering.{as_partial_cmp};
@@ -14,9 +14,10 @@ ghost use Rattle.rs_attrs.specs.ComparisonLaws.{same_attributes_equiv, attribute
 ghost use Rattle.rs_attrs.specs.Held.{attributes_in, values_size};
 ghost use Rattle.rs_attrs.specs.Writing.{IsLegal};
 
-use crate::getters::path_in;
+use crate::getters::{path_in, value_or_none};
 use crate::heads::Head;
-use crate::path_marks::marks_of;
+use crate::marks::{TagMarks, path_marks_of};
+use crate::types::{COMMUNITIES, LARGE_COMMUNITY};
 use std::alloc::AllocError;
 use std::cmp::Ordering;
 use std::hash::{FoldHasher, Hash, Hasher};
@@ -32,6 +33,8 @@ pub struct Attrs {
     hash: u32,
     /// The marks of AS_PATH's numbers, set there too.
     pub(crate) path_marks: u32,
+    /// The marks of its communities, likewise.
+    pub(crate) tag_marks: TagMarks,
 }
 
 impl Model for Attrs {
@@ -44,7 +47,7 @@ impl Model for Attrs {
 
     ghost view = { λ a. attributes_in a.heads.items a.values.items };
 
-    ghost invariant = { λ a. IsHeld a.heads.items a.values.items a.hash a.path_marks };
+    ghost invariant = { λ a. IsHeld a.heads.items a.values.items a.hash a.path_marks a.tag_marks };
 }
 
 /// The hash of the attributes that lie so.
@@ -59,19 +62,24 @@ fn hash_of(heads: &[Head], values: &[u8]) -> u32
 }
 
 impl Attrs {
-    /// The attributes that lie so. It hashes them, and marks the numbers of AS_PATH.
+    /// The attributes that lie so. It hashes them, and marks the numbers of AS_PATH and the communities.
     pub(crate) fn of(heads: Vec<Head>, values: Vec<u8>) -> Attrs
         requires size { values_size heads.items ≡ length values.items }
         requires legal { IsLegal (attributes_in heads.items values.items) }
         ensures { result ≡ attributes_in heads.items values.items }
     {
         let hash = hash_of(&heads, &values);
-        let path_marks = marks_of(path_in(&heads, &values));
+        let path_marks = path_marks_of(path_in(&heads, &values));
+        let tag_marks = TagMarks::of(
+            value_or_none(&heads, &values, COMMUNITIES),
+            value_or_none(&heads, &values, LARGE_COMMUNITY),
+        );
         Attrs {
             heads,
             values,
             hash,
             path_marks,
+            tag_marks,
         }
     }
 
@@ -93,6 +101,7 @@ impl Clone for Attrs {
             values: self.values.clone()?,
             hash: self.hash,
             path_marks: self.path_marks,
+            tag_marks: self.tag_marks,
         })
     }
 }

@@ -1,18 +1,19 @@
 //! What the attributes of a route say. No call takes memory.
 
-ghost use Rattle.std.specs.Prelude.{◌≡◌, ◌≤◌, ◌<◌, ◌^◌, IfSome, length, is_some, option_map, sum_by, true, not};
+ghost use Rattle.std.specs.Prelude.{◌≡◌, ◌≤◌, ◌<◌, ◌^◌, [], IfSome, IsTrue, length, is_some, option_map, sum_by, true, not, unwrap_or};
 ghost use Rattle.std.specs.List.{list_any};
 ghost use Rattle.std.specs.Int.{w32, from_be_bytes};
 ghost use Rattle.rs_attrs.specs.Held.{attributes_in, values_size};
 ghost use Rattle.rs_attrs.specs.Effects.{lacks_mandatory, missing_of};
 ghost use Rattle.rs_attrs.specs.Meaning.{get};
 ghost use Rattle.rs_attrs.specs.Paths.{segment_length};
+ghost use Rattle.rs_attrs.specs.Tagged.{LacksAsked};
 ghost use Rattle.rs_attrs.specs.Writing.{IsLegal};
 ghost use Rattle.rs_attrs.specs.Getters.{attribute_at, IsWellFormedAs, value_of, origin_of, path_of, next_hop_of, med_of, communities_of, large_communities_of, path_length_of, path_has_of, origin_as_of, tagged, large_tagged};
 
 use crate::attrs::Attrs;
 use crate::heads::Head;
-use crate::path_marks::mark_of;
+use crate::marks::{TagMarks, mark_of};
 use crate::patterns::LargeCommunities;
 use crate::segments::{Numbers, Segments};
 use crate::tags::Tags;
@@ -59,6 +60,15 @@ fn value_in<'a>(heads: &[Head], values: &'a [u8], kind: u8) -> Option<&'a [u8]>
     ensures form { IfSome result (λ value. IsWellFormedAs kind value.now) }
 {
     Some(find(heads, values, kind)?.value)
+}
+
+/// The value of the attribute of a type, no octets where there is none.
+pub(crate) fn value_or_none<'a>(heads: &[Head], values: &'a [u8], kind: u8) -> &'a [u8]
+    requires size { values_size heads.now ≤ length values.now }
+    requires legal { IsLegal (attributes_in heads.now values.now) }
+    ensures { result.now ≡ unwrap_or (value_of kind (attributes_in heads.now values.now)) [] }
+{
+    value_in(heads, values, kind).unwrap_or(&[])
 }
 
 /// The segments of AS_PATH, none where there is no AS_PATH.
@@ -212,8 +222,16 @@ impl Attrs {
         ensures communities { tagged result ≡ communities_of self.now }
         ensures large { large_tagged result ≡ large_communities_of self.now }
     {
-        let communities = self.value(COMMUNITIES).unwrap_or(&[]);
-        let large = self.value(LARGE_COMMUNITY).unwrap_or(&[]);
-        Tags::of(communities, large)
+        let communities = value_or_none(&self.heads, &self.values, COMMUNITIES);
+        let large = value_or_none(&self.heads, &self.values, LARGE_COMMUNITY);
+        Tags::of(communities, large, self.tag_marks)
+    }
+
+    /// Whether the marks tell that no community and no large one is as these ask: none has a first part that is asked for.
+    pub fn lacks(&self, asked: TagMarks) -> bool
+        ensures { IsTrue result → LacksAsked asked self.now }
+    {
+        self.tag_marks.communities & asked.communities == 0
+            && self.tag_marks.large & asked.large == 0
     }
 }

@@ -11,7 +11,7 @@
 //! - `faults` says what is wrong with a field, for the UPDATE and for the log.
 //! - `attrs` says how attributes lie in memory, `heads` what of each is not its value; `getters` and
 //!   `stripping` ask and change them, by the communities that are like `patterns`; `tags` are a route's
-//!   communities, found once for many tests; by `path_marks` most numbers that a path lacks are known.
+//!   communities, found once for many tests; by `marks` most numbers that a path lacks are known, and most communities that a route does.
 //! - `segments` takes a path apart, for AS numbers in two octets and in four.
 //! - `writing` and its folder: `parts` is the list of what is to be written, by rising type, which
 //!   `size` counts and `write_into` writes; `head` spells what stands before a value, `narrow` the
@@ -26,8 +26,8 @@ mod faults;
 mod getters;
 mod heads;
 mod laws;
+mod marks;
 mod mode;
-mod path_marks;
 mod patterns;
 mod reading;
 mod segments;
@@ -44,6 +44,7 @@ pub use laws::{
     attributes_are_legal, changes_overlay, fields_are_read, fields_mean_one, paths_are_read,
     slices_are_octets, spelling_reads_back,
 };
+pub use marks::TagMarks;
 pub use mode::Mode;
 pub use patterns::{CommunityPattern, LargeCommunityPattern};
 pub use reading::{Parsed, read};

@@ -7,11 +7,9 @@ ghost use Rattle.rs_attrs.specs.Marks.{AreLargeMarked, AreMarked};
 ghost use Rattle.rs_attrs.specs.Patterns.{is_like, is_like_large, large_communities_in};
 ghost use Rattle.rs_attrs.specs.Paths.{quads};
 
+use crate::marks::{TagMarks, mark_of};
 use crate::patterns::{CommunityPattern, LargeCommunities, LargeCommunityPattern};
 use crate::segments::Numbers;
-
-/// How many marks there are.
-const MARKS: u32 = 64;
 
 /// The communities and the large communities of a route, found once for many tests. What their first parts are is
 /// marked, so that most tests for another one look at no community.
@@ -19,49 +17,25 @@ const MARKS: u32 = 64;
 pub struct Tags<'a> {
     communities: &'a [u8],
     large: &'a [u8],
-    /// Marks, by the first 16 bits of communities.
-    highs: [bool; 64],
-    /// Marks, by the Global Administrators of large communities.
-    globals: [bool; 64],
-    ghost marked: { AreMarked highs (quads communities.now) } by { Prim.hlevel props },
-    ghost large_marked: { AreLargeMarked globals (large_communities_in large.now) } by { Prim.hlevel props },
-}
-
-/// The marks of communities.
-fn marks_of(communities: &[u8]) -> [bool; 64]
-    ensures { AreMarked result (quads communities.now) }
-{
-    let mut marks = [false; 64];
-    for community in Numbers::of(communities) {
-        marks[(community / 65536 % MARKS) as usize] = true;
-    }
-    marks
-}
-
-/// The marks of large communities.
-fn large_marks_of(communities: &[u8]) -> [bool; 64]
-    ensures { AreLargeMarked result (large_communities_in communities.now) }
-{
-    let mut marks = [false; 64];
-    for community in LargeCommunities::of(communities) {
-        marks[(community.global % MARKS) as usize] = true;
-    }
-    marks
+    marks: TagMarks,
+    ghost marked: { AreMarked marks.communities (quads communities.now) } by { Prim.hlevel props },
+    ghost large_marked: { AreLargeMarked marks.large (large_communities_in large.now) } by { Prim.hlevel props },
 }
 
 impl<'a> Tags<'a> {
     ghost use Rattle.rs_attrs.specs.Getters.{tagged, large_tagged};
 
-    /// Of values of COMMUNITIES and of LARGE_COMMUNITY.
-    pub(crate) fn of(communities: &'a [u8], large: &'a [u8]) -> Tags<'a>
+    /// Of values of COMMUNITIES and of LARGE_COMMUNITY, which have these marks.
+    pub(crate) fn of(communities: &'a [u8], large: &'a [u8], marks: TagMarks) -> Tags<'a>
+        requires marked { AreMarked marks.communities (quads communities.now) }
+        requires large_marked { AreLargeMarked marks.large (large_communities_in large.now) }
         ensures communities { tagged result ≡ quads communities.now }
         ensures large { large_tagged result ≡ large_communities_in large.now }
     {
         Tags {
             communities,
             large,
-            highs: marks_of(communities),
-            globals: large_marks_of(large),
+            marks,
         }
     }
 
@@ -70,7 +44,7 @@ impl<'a> Tags<'a> {
         ensures { IsTrue result → list_any (is_like pattern.now) (tagged self.now) ≡ false }
     {
         if let Some(high) = pattern.high
-            && !self.highs[(high % MARKS) as usize]
+            && self.marks.communities & mark_of(high) == 0
         {
             return true;
         }
@@ -82,7 +56,7 @@ impl<'a> Tags<'a> {
         ensures { IsTrue result → list_any (is_like_large pattern.now) (large_tagged self.now) ≡ false }
     {
         if let Some(global) = pattern.global
-            && !self.globals[(global % MARKS) as usize]
+            && self.marks.large & mark_of(global) == 0
         {
             return true;
         }

@@ -3,9 +3,9 @@ use Rattle.std.specs.List.{list_any}
 use Rattle.std.proofs.lemmas.Iterator.Consumers.{YieldsList-from_first}
 use Rattle.std.proofs.lemmas.Iterator.Search.{any_from_yields_List}
 use Rattle.rs_attrs.specs.Getters.{path_of, path_has_of}
-use Rattle.rs_attrs.specs.PathMarks.{mark_of}
+use Rattle.rs_attrs.specs.Marks.{mark_of}
 use Rattle.rs_attrs.specs.Spellings.{has_flag}
-use Rattle.rs_attrs.proofs.PathMarks.{path_lacks}
+use Rattle.rs_attrs.proofs.Unmarked.{path_lacks}
 use Rattle.rs_attrs.proofs.attrs.Attrs.path_has.Goals as goal
 
 pub returns-then-self-mark_of-eq0 : goal.returns-then-self-mark_of-eq0

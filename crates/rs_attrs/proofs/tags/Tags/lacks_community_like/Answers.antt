@@ -1,5 +1,10 @@
-use Rattle.rs_attrs.proofs.Marks.{none_like}
+use Rattle.std.proofs.Common.{ap, sym, ◌∙◌, bit_and}
+use Rattle.rs_attrs.specs.Marks.{mark_of}
+use Rattle.rs_attrs.proofs.Unmarked.{given_alone, none_like}
 use Rattle.rs_attrs.proofs.tags.Tags.lacks_community_like.Goals as goal
 
 pub returns : goal.returns
-returns c _ = none_like c.args.pattern.now c.in-Some.high c.args.self.now.highs _ c.in-Some.is c.if-not-self-high.true c.args.self.now.marked
+returns c _ =
+    let h = c.in-Some.high in
+    let marks = c.args.self.now.marks.communities in
+    none_like c.args.pattern.now marks (mark_of h) _ (ap (bit_and marks) (sym c.mark_of.ensures) ∙ c.if-self-mark_of-eq0.true) c.args.self.now.marked (given_alone c.args.pattern.now.high h c.in-Some.is)

@@ -1,16 +1,16 @@
 use Rattle.std.proofs.Common.{sym, subst}
-use Rattle.rs_attrs.specs.PathMarks.{AreNumbersMarked}
-use Rattle.rs_attrs.proofs.PathMarks.{one_kept, one_marked}
-use Rattle.rs_attrs.proofs.path_marks.with_marks_of.Goals as goal
+use Rattle.rs_attrs.specs.Marks.{mark_of, AreNumbersMarked}
+use Rattle.rs_attrs.proofs.Unmarked.{left_kept, one_marked}
+use Rattle.rs_attrs.proofs.marks.with_marks_of.Goals as goal
 
 pub loop-number-preserved : goal.loop-number-preserved
 loop-number-preserved c =
     let marks = c.loop-number.marks in
     let number = c.in-Some.number in
     rw c.mark_of-marks.ensures (record {
-      kept = λ n is. one_kept marks number n (c.loop-number.invariant.kept n is);
+      kept = λ n is. left_kept marks (mark_of number) n (c.loop-number.invariant.kept n is);
       marked = λ m among rest.
-          c.loop-number.invariant.marked m (λ n is. among n (one_kept marks number n is))
+          c.loop-number.invariant.marked m (λ n is. among n (left_kept marks (mark_of number) n is))
           (subst (AreNumbersMarked m) (sym c.in-Some.ensures.steps) (among number (one_marked marks number), rest));
     })
 

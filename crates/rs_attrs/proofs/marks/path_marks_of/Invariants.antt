@@ -1,6 +1,6 @@
 use Rattle.std.proofs.Common.{ℕ}
-use Rattle.rs_attrs.specs.PathMarks.{IsPathMarked, KeepsMarks}
-use Rattle.rs_attrs.proofs.path_marks.marks_of.Given as goal
+use Rattle.rs_attrs.specs.Marks.{IsPathMarked, KeepsMarks}
+use Rattle.rs_attrs.proofs.marks.path_marks_of.Given as goal
 
 -- what marks what is left, too, marks all
 abbrev pub invariant-loop-segment : goal.invariant-loop-segment

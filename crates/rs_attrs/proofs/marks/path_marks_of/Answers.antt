@@ -1,7 +1,7 @@
 use Rattle.std.proofs.Common.{sym, subst}
-use Rattle.rs_attrs.specs.PathMarks.{AreNumbersMarked, IsPathMarked}
-use Rattle.rs_attrs.proofs.PathMarks.{more_marked}
-use Rattle.rs_attrs.proofs.path_marks.marks_of.Goals as goal
+use Rattle.rs_attrs.specs.Marks.{AreNumbersMarked, IsPathMarked}
+use Rattle.rs_attrs.proofs.Unmarked.{more_marked}
+use Rattle.rs_attrs.proofs.marks.path_marks_of.Goals as goal
 
 pub loop-segment-preserved : goal.loop-segment-preserved
 loop-segment-preserved c =

@@ -1,6 +1,6 @@
 use Rattle.std.proofs.Common.{ℕ}
-use Rattle.rs_attrs.specs.PathMarks.{AreNumbersMarked, KeepsMarks}
-use Rattle.rs_attrs.proofs.path_marks.with_marks_of.Given as goal
+use Rattle.rs_attrs.specs.Marks.{AreNumbersMarked, KeepsMarks}
+use Rattle.rs_attrs.proofs.marks.with_marks_of.Given as goal
 
 -- what marks what is left, too, marks all
 abbrev pub invariant-loop-number : goal.invariant-loop-number
