@@ -230,16 +230,18 @@ backed_hash rows p due.Withdrawn m backed is = absurd (let f : ◌≡◌ {A = Op
 backed_hash rows p (due.Announced number hash) m backed is = ap (λ h. Some h) (sym (hash_by (row_at rows number) p hash m backed is))
 
 -- between a slot of a message's hash and the one that it leads to, none waits for the message's attributes
-pub none_between : (rows : List (Option Row)) (ws : List Wait) (chains : List ℕ) (m : List Attribute) (exact has : Bool) → AreChained rows ws chains → (exact ≡ false → AreByHash ws chains) → (exact && not has) ≡ false
-    → (i n chain : ℕ) (w z : Wait) → slice_get chains i ≡ Some chain → slice_get ws i ≡ Some w → slice_get ws n ≡ Some z → i < n → n < chain → hash_of w.due ≡ Some (attributes_hash m)
-    → (has ≡ true → (w.open ≡ true) × (shown (row_by rows w.due) ≡ Some m)) → (z.open ≡ true → IsBacked rows z.prefix z.due) → shares rows m z ≡ false
-none_between rows ws chains m exact has chained by_hash one i n chain w z at from to later below w_hash is backed =
-    shares_other rows m z (λ opened also. go exact has chained by_hash one is opened (backed_hash rows z.prefix z.due m (backed opened) also) also)
+pub none_between : (rows : List (Option Row)) (ws : List Wait) (chains : List ℕ) (m : List Attribute) (exact has : Bool) → AreChained rows ws chains → (exact ≡ false → AreByHash ws chains)
+    → (i n chain : ℕ) (w z : Wait) → slice_get chains i ≡ Some chain → slice_get ws i ≡ Some w → slice_get ws n ≡ Some z → i < n → n < chain
+    → (has ≡ false → (exact ≡ false) × (hash_of w.due ≡ Some (attributes_hash m))) → (has ≡ true → (w.open ≡ true) × (shown (row_by rows w.due) ≡ Some m))
+    → (w.open ≡ true → IsBacked rows w.prefix w.due) → (z.open ≡ true → IsBacked rows z.prefix z.due) → shares rows m z ≡ false
+none_between rows ws chains m exact has chained by_hash i n chain w z at from to later below hashed is w_backed backed =
+    shares_other rows m z (λ opened also. go has hashed is opened (backed_hash rows z.prefix z.due m (backed opened) also) also)
   where
-    go : (exact has : Bool) → AreChained rows ws chains → (exact ≡ false → AreByHash ws chains) → (exact && not has) ≡ false → (has ≡ true → (w.open ≡ true) × (shown (row_by rows w.due) ≡ Some m)) → z.open ≡ true → hash_of z.due ≡ Some (attributes_hash m) → shown (row_by rows z.due) ≡ Some m → ⊥
-    go exact true chained by_hash one is opened z_hash also = chained i n chain (attributes_hash m) w z m at from to later below (is refl).0 opened w_hash z_hash (is refl).1 also
-    go false false chained by_hash one is opened z_hash also = by_hash refl i n chain (attributes_hash m) w z at from to later below opened w_hash z_hash
-    go true false chained by_hash one is opened z_hash also = absurd (cc)
+    go : (has : Bool) → (has ≡ false → (exact ≡ false) × (hash_of w.due ≡ Some (attributes_hash m))) → (has ≡ true → (w.open ≡ true) × (shown (row_by rows w.due) ≡ Some m)) → z.open ≡ true → hash_of z.due ≡ Some (attributes_hash m) → shown (row_by rows z.due) ≡ Some m → ⊥
+    go true hashed is opened z_hash also =
+        let here = is refl in
+        chained i n chain (attributes_hash m) w z m at from to later below here.0 opened (backed_hash rows w.prefix w.due m (w_backed here.0) here.1) z_hash here.1 also
+    go false hashed is opened z_hash also = by_hash (hashed refl).0 i n chain (attributes_hash m) w z at from to later below opened (hashed refl).1 z_hash
 
 announced : (d : Due) (hash : ℕ) → hash_of d ≡ Some hash → (number : ℕ) × (d ≡ due.Announced number hash)
 announced due.Withdrawn hash is = absurd (let f : ◌≡◌ {A = Option ℕ} None (Some hash) = is in cc)

@@ -347,10 +347,7 @@ impl Waits {
         ensures within { result ≤ self.now.sorted }
         ensures between { (rows : List (Option Row)) (m : List Attribute) → AreChained rows (take self.now.sorted self.now.slots.items) self.now.chains.items → AreBacked rows self.now.slots.items → attributes_hash m ≡ hash → (IsTrue has → HoldsAt (λ w. (w.open ≡ true) × (shown (row_by rows w.due) ≡ Some m)) self.now.slots.items slot) → (n : ℕ) (z : Wait) → slice_get self.now.slots.items n ≡ Some z → slot < n → n < result → shares rows m z ≡ false }
     {
-        if self.exact && !has {
-            return slot + 1;
-        }
-        if !self.slots[slot].has_hash(hash) {
+        if !has && (self.exact || !self.slots[slot].has_hash(hash)) {
             return slot + 1;
         }
         match self.chains.get(slot) {

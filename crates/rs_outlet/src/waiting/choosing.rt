@@ -7,6 +7,7 @@ ghost use Rattle.std.specs.Ordering.{eq_by_cmp};
 ghost use Rattle.std.specs.Vec.{vec_capacity};
 ghost use Rattle.rs_octets.specs.Prefixes.{Prefix, prefix_order};
 ghost use Rattle.rs_attrs.specs.Meaning.{Attribute};
+ghost use Rattle.rs_attrs.specs.Comparing.{attributes_hash};
 ghost use Rattle.rs_rows.specs.Rows.{Row};
 ghost use Rattle.rs_outlet.specs.declared.waiting.Wait.{Wait};
 ghost use Rattle.rs_outlet.specs.Pending.Slots.{IsShut, open_at, is_withdrawal, is_withdrawn, is_announced, rising, withdrawn_count};
@@ -193,11 +194,15 @@ impl Waits {
         chosen: &mut Vec<usize>,
         front: &mut Vec<Prefix>,
     ) -> (usize, usize)
+        requires room { (room ≤ vec_capacity chosen.old) × (room ≤ vec_capacity front.old) }
+        requires none { (chosen.old.items ≡ []) × (front.old.items ≡ []) }
         requires known { HoldsAt (WaitsFor rows.now.rows.items attrs.now) self.now.slots.items known }
+        requires backed { AreBacked rows.now.rows.items self.now.slots.items }
+        requires chained { AreChained rows.now.rows.items (take self.now.sorted self.now.slots.items) self.now.chains.items }
         ensures chosen { vec_capacity chosen.new ≡ vec_capacity chosen.old }
         ensures front { vec_capacity front.new ≡ vec_capacity front.old }
-        ensures are { AreChosen rows.now.rows.items self.now.slots.items (Some attrs.now) chosen.old.items front.old.items → AreChosen rows.now.rows.items self.now.slots.items (Some attrs.now) chosen.new.items front.new.items }
-        ensures all { AreChained rows.now.rows.items (take self.now.sorted self.now.slots.items) self.now.chains.items → AreBacked rows.now.rows.items self.now.slots.items → room ≤ vec_capacity chosen.old → room ≤ vec_capacity front.old → chosen.old.items ≡ [] → front.old.items ≡ [] → front.new.items ≡ take room (passing (shares rows.now.rows.items attrs.now) (rising self.now.slots.items)) }
+        ensures are { AreChosen rows.now.rows.items self.now.slots.items (Some attrs.now) chosen.new.items front.new.items }
+        ensures all { front.new.items ≡ take room (passing (shares rows.now.rows.items attrs.now) (rising self.now.slots.items)) }
     {
         let hash = attrs.kept_hash();
         let mut first = self.news;
@@ -211,10 +216,12 @@ impl Waits {
             let Some(slot) = self.lesser(first, late) else {
                 return (passed, walked);
             };
-            let listed = self.list_announced(rows, slot, known, attrs, chosen, front);
+            let listed = self.list_announced(rows, slot, known, attrs, hash, chosen, front);
             if slot < self.sorted {
-                passed = passed.saturating_add(usize::from(self.is_passed(slot, hash, listed)));
-                walked = walked.saturating_add(usize::from(!listed));
+                if !listed {
+                    passed = passed.saturating_add(usize::from(self.is_passed(slot, hash, listed)));
+                    walked = walked.saturating_add(1);
+                }
                 first = self.next_slot(slot, hash, listed);
             } else {
                 late = slot + 1;
@@ -223,29 +230,33 @@ impl Waits {
         (passed, walked)
     }
 
-    /// Lists the prefix of a slot, if it waits for these attributes, as the one that is `known` does. Answers whether it does.
+    /// Lists the prefix of a slot, if it waits for these attributes, of which this is the hash, as the one that is `known`
+    /// does. Answers whether it does.
     fn list_announced(
         &self,
         rows: &Rows,
         slot: usize,
         known: usize,
         attrs: &Attrs,
+        hash: u32,
         chosen: &mut Vec<usize>,
         front: &mut Vec<Prefix>,
     ) -> bool
         requires slot { slot < vec_len self.now.slots }
         requires known { HoldsAt (WaitsFor rows.now.rows.items attrs.now) self.now.slots.items known }
+        requires hash { attributes_hash attrs.now ≡ hash }
+        requires backed { AreBacked rows.now.rows.items self.now.slots.items }
         ensures waits { IsTrue result → HoldsAt (λ w. (w.open ≡ true) × (shown (row_by rows.now.rows.items w.due) ≡ Some attrs.now)) self.now.slots.items slot }
         ensures chosen { vec_capacity chosen.new ≡ vec_capacity chosen.old }
         ensures front { vec_capacity front.new ≡ vec_capacity front.old }
         ensures are { AreChosen rows.now.rows.items self.now.slots.items (Some attrs.now) chosen.old.items front.old.items → AreChosen rows.now.rows.items self.now.slots.items (Some attrs.now) chosen.new.items front.new.items }
-        ensures all { HaveRoom chosen.old front.old → HoldsAt (λ w. (w.open ≡ true → IsBacked rows.now.rows.items w.prefix w.due) → front.new.items ≡ front.old.items ++ passing (shares rows.now.rows.items attrs.now) (w ∷ [])) self.now.slots.items slot }
+        ensures all { HaveRoom chosen.old front.old → HoldsAt (λ w. front.new.items ≡ front.old.items ++ passing (shares rows.now.rows.items attrs.now) (w ∷ [])) self.now.slots.items slot }
     {
         let wait = &self.slots[slot];
         if !wait.open {
             return false;
         }
-        if !waits_for(rows, wait, attrs, slot == known) {
+        if !waits_for(rows, wait, attrs, hash, slot == known) {
             return false;
         }
         // for the prover: it is legal
@@ -335,29 +346,28 @@ fn list_slot(slot: usize, prefix: Prefix, chosen: &mut Vec<usize>, front: &mut V
     front.push_reserved(prefix);
 }
 
-/// Whether a slot waits for these attributes; one of which that is known is not looked at.
-fn waits_for(rows: &Rows, wait: &Wait, attrs: &Attrs, is_known: bool) -> bool
-    requires { IsTrue is_known → WaitsFor rows.now.rows.items attrs.now wait.now }
+/// Whether an open slot waits for these attributes, of which this is the hash. One of which that is known is not looked
+/// at; each other one has the row of its prefix, so that no prefix is compared.
+fn waits_for(rows: &Rows, wait: &Wait, attrs: &Attrs, hash: u32, is_known: bool) -> bool
+    requires known { IsTrue is_known → WaitsFor rows.now.rows.items attrs.now wait.now }
+    requires hash { attributes_hash attrs.now ≡ hash }
+    requires backed { IsBacked rows.now.rows.items wait.now.prefix wait.now.due }
     ensures said { IsTrue result → is_withdrawal wait.now.due ≡ false }
     ensures row { IsTrue result → HasRow rows.now.rows.items wait.now.prefix attrs.now }
     ensures due { IsTrue result → shown (row_by rows.now.rows.items wait.now.due) ≡ Some attrs.now }
-    ensures all { WaitsFor rows.now.rows.items attrs.now wait.now → result ≡ true }
-    ensures just { IsBacked rows.now.rows.items wait.now.prefix wait.now.due → result ≡ has_attributes (shown (row_by rows.now.rows.items wait.now.due)) attrs.now }
+    ensures just { result ≡ has_attributes (shown (row_by rows.now.rows.items wait.now.due)) attrs.now }
 {
     if is_known {
         return true;
     }
-    let Due::Announced { number, hash } = wait.due else {
+    let Due::Announced { number, hash: own } = wait.due else {
         return false;
     };
-    if hash != attrs.kept_hash() {
+    if own != hash {
         return false;
     }
-    let Some(row) = rows.get(number) else {
+    let Some(due) = rows.attrs(number) else {
         return false;
     };
-    if row.prefix != wait.prefix {
-        return false;
-    }
-    **row.attrs == *attrs
+    **due == *attrs
 }

@@ -1,7 +1,6 @@
-use Rattle.std.proofs.Common.{◌≡◌, ◌+◌, ◌≤◌, [], min, take}
+use Rattle.std.proofs.Common.{◌≡◌, ◌+◌, ◌≤◌, min}
 use Rattle.std.specs.Vec.{vec_capacity}
 use Rattle.std.specs.Prelude.{Some, vec_len}
-use Rattle.rs_outlet.specs.Inside.{AreBacked, AreChained}
 use Rattle.rs_outlet.specs.Pending.Choosing.{AreChosen, shares}
 use Rattle.rs_outlet.proofs.Message.Collected.{AreCollected}
 use Rattle.rs_outlet.proofs.waiting.Waits.collect_announced.Given as goal
@@ -13,6 +12,6 @@ invariant-loop l = record {
   past : l.self.sorted ≤ l.late;
   within : l.late ≤ vec_len l.self.slots;
   far : l.counter + l.self.sorted ≤ min l.first l.self.sorted + l.late;
-  are : AreChosen l.rows.rows.items l.self.slots.items (Some l.attrs) l.fn.chosen.items l.fn.front.items → AreChosen l.rows.rows.items l.self.slots.items (Some l.attrs) l.chosen.items l.front.items;
-  all : AreChained l.rows.rows.items (take l.self.sorted l.self.slots.items) l.self.chains.items → AreBacked l.rows.rows.items l.self.slots.items → l.room ≤ vec_capacity l.fn.chosen → l.room ≤ vec_capacity l.fn.front → l.fn.chosen.items ≡ [] → l.fn.front.items ≡ [] → AreCollected (shares l.rows.rows.items l.attrs) l.self.slots.items l.self.sorted l.room l.first l.late l.front.items;
+  are : AreChosen l.rows.rows.items l.self.slots.items (Some l.attrs) l.chosen.items l.front.items;
+  all : AreCollected (shares l.rows.rows.items l.attrs) l.self.slots.items l.self.sorted l.room l.first l.late l.front.items;
 }
