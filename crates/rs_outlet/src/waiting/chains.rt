@@ -330,6 +330,9 @@ impl Waits {
         ensures chains { self.new.chains.items ≡ self.old.chains.items }
         ensures capacity { vec_capacity self.new.slots ≡ vec_capacity self.old.slots }
     {
+        if walked == 0 {
+            return;
+        }
         let cost = walked.saturating_add(passed.saturating_mul(COMPARED));
         self.walked = self.walked.saturating_add(cost);
         let walks = if self.exact { EXACT_WALKS } else { WALKS };

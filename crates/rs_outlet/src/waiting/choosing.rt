@@ -102,10 +102,12 @@ impl Waits {
 
     /// Lists what is to be withdrawn, from the least prefix on, as much as there is room for.
     fn collect_withdrawn(&self, room: usize, chosen: &mut Vec<usize>, front: &mut Vec<Prefix>)
+        requires room { (room ≤ vec_capacity chosen.old) × (room ≤ vec_capacity front.old) }
+        requires none { (chosen.old.items ≡ []) × (front.old.items ≡ []) }
         ensures chosen { vec_capacity chosen.new ≡ vec_capacity chosen.old }
         ensures front { vec_capacity front.new ≡ vec_capacity front.old }
-        ensures are { (rows : List (Option Row)) → AreChosen rows self.now.slots.items None chosen.old.items front.old.items → AreChosen rows self.now.slots.items None chosen.new.items front.new.items }
-        ensures all { room ≤ vec_capacity chosen.old → room ≤ vec_capacity front.old → chosen.old.items ≡ [] → front.old.items ≡ [] → front.new.items ≡ take room (passing is_withdrawn (rising self.now.slots.items)) }
+        ensures are { (rows : List (Option Row)) → AreChosen rows self.now.slots.items None chosen.new.items front.new.items }
+        ensures all { front.new.items ≡ take room (passing is_withdrawn (rising self.now.slots.items)) }
     {
         let mut first = self.gone;
         let mut late = self.sorted;
@@ -127,11 +129,12 @@ impl Waits {
 
     /// Lists the prefix of a slot, if it is to be withdrawn.
     fn list_withdrawn(&self, slot: usize, chosen: &mut Vec<usize>, front: &mut Vec<Prefix>)
-        requires { slot < vec_len self.now.slots }
+        requires slot { slot < vec_len self.now.slots }
+        requires room { HaveRoom chosen.old front.old }
         ensures chosen { vec_capacity chosen.new ≡ vec_capacity chosen.old }
         ensures front { vec_capacity front.new ≡ vec_capacity front.old }
         ensures are { (rows : List (Option Row)) → AreChosen rows self.now.slots.items None chosen.old.items front.old.items → AreChosen rows self.now.slots.items None chosen.new.items front.new.items }
-        ensures all { HaveRoom chosen.old front.old → HoldsAt (λ w. front.new.items ≡ front.old.items ++ passing is_withdrawn (w ∷ [])) self.now.slots.items slot }
+        ensures all { HoldsAt (λ w. front.new.items ≡ front.old.items ++ passing is_withdrawn (w ∷ [])) self.now.slots.items slot }
     {
         let wait = &self.slots[slot];
         if wait.is_withdrawn() {
@@ -246,11 +249,12 @@ impl Waits {
         requires known { HoldsAt (WaitsFor rows.now.rows.items attrs.now) self.now.slots.items known }
         requires hash { attributes_hash attrs.now ≡ hash }
         requires backed { AreBacked rows.now.rows.items self.now.slots.items }
+        requires room { HaveRoom chosen.old front.old }
         ensures waits { IsTrue result → HoldsAt (λ w. (w.open ≡ true) × (shown (row_by rows.now.rows.items w.due) ≡ Some attrs.now)) self.now.slots.items slot }
         ensures chosen { vec_capacity chosen.new ≡ vec_capacity chosen.old }
         ensures front { vec_capacity front.new ≡ vec_capacity front.old }
         ensures are { AreChosen rows.now.rows.items self.now.slots.items (Some attrs.now) chosen.old.items front.old.items → AreChosen rows.now.rows.items self.now.slots.items (Some attrs.now) chosen.new.items front.new.items }
-        ensures all { HaveRoom chosen.old front.old → HoldsAt (λ w. front.new.items ≡ front.old.items ++ passing (shares rows.now.rows.items attrs.now) (w ∷ [])) self.now.slots.items slot }
+        ensures all { HoldsAt (λ w. front.new.items ≡ front.old.items ++ passing (shares rows.now.rows.items attrs.now) (w ∷ [])) self.now.slots.items slot }
     {
         let wait = &self.slots[slot];
         if !wait.open {
@@ -329,19 +333,14 @@ fn next_announced(slots: &[Wait], from: usize) -> usize
     slots.len()
 }
 
-/// Lists a slot and its prefix, if there is room for both.
+/// Lists a slot and its prefix, for which there is room.
 fn list_slot(slot: usize, prefix: Prefix, chosen: &mut Vec<usize>, front: &mut Vec<Prefix>)
+    requires { HaveRoom chosen.old front.old }
     ensures chosen { vec_capacity chosen.new ≡ vec_capacity chosen.old }
     ensures front { vec_capacity front.new ≡ vec_capacity front.old }
-    ensures prefix { HaveRoom chosen.old front.old → front.new.items ≡ front.old.items ++ prefix ∷ [] }
+    ensures prefix { front.new.items ≡ front.old.items ++ prefix ∷ [] }
     ensures are { (rows : List (Option Row)) (ws : List Wait) (said : Option (List Attribute)) → AreChosen rows ws said chosen.old.items front.old.items → IsChosen rows ws said slot prefix → AreChosen rows ws said chosen.new.items front.new.items }
 {
-    if chosen.capacity() <= chosen.len() {
-        return;
-    }
-    if front.capacity() <= front.len() {
-        return;
-    }
     chosen.push_reserved(slot);
     front.push_reserved(prefix);
 }

@@ -6,7 +6,7 @@ use Rattle.rs_outlet.specs.declared.waiting.Wait.{Wait}
 use Rattle.rs_outlet.specs.Inside.{row_by, shown}
 use Rattle.rs_outlet.specs.Message.Next.{has_attributes}
 use Rattle.rs_outlet.specs.Pending.Slots.{is_announced}
-use Rattle.rs_outlet.specs.Pending.Choosing.{HaveRoom, passing, shares}
+use Rattle.rs_outlet.specs.Pending.Choosing.{passing, shares}
 use Rattle.rs_outlet.proofs.Message.AllWaiting.{not_shared}
 use Rattle.rs_outlet.proofs.Message.Chosen.{as_many, none_chosen}
 use Rattle.rs_outlet.proofs.Message.Collected.{AreCollected, at_index, both_rise, collected_all, collected_first, collected_late, collected_none, not_before, of_first, of_late, read_holds}
@@ -31,6 +31,14 @@ loop-init c =
           (λ n w at below within. not_shared rows c.args.attrs.now w (not_before is_announced was.sorted 0 was.news was.slots.items was.announced n w at (omega arith) below within));
     }
 
+-- there is room for one more
+pub list_announced-listed-requires-clause-room : goal.list_announced-listed-requires-clause-room
+list_announced-listed-requires-clause-room c =
+    let inv = c.loop.invariant in
+    let more : vec_len c.loop.front < c.args.room = omega (arith, c.if-room-len.false, c.len.ensures) in
+    let even = as_many c.args.rows.now.rows.items c.args.self.now.slots.items (Some c.args.attrs.now) c.loop.chosen.items c.loop.front.items inv.are in
+    (omega (arith, more, even, c.requires.room.0, inv.chosen, c.loop.front.ok, c.loop.chosen.ok), omega (arith, more, c.requires.room.1, inv.front))
+
 pub loop-preserved : goal.loop-preserved
 loop-preserved c =
     let was = c.args.self.now in
@@ -38,9 +46,7 @@ loop-preserved c =
     let inv = c.loop.invariant in
     let more : vec_len c.loop.front < c.args.room = omega (arith, c.if-room-len.false, c.len.ensures) in
     let v = at_index ws c.in-Some.slot (omega (arith, c.in-Some.ensures.within, was.slots.ok)) in
-    let even = as_many c.args.rows.now.rows.items ws (Some c.args.attrs.now) c.loop.chosen.items c.loop.front.items inv.are in
-    let have : HaveRoom c.loop.chosen c.loop.front = (omega (arith, more, even, c.requires.room.0, inv.chosen, c.loop.front.ok, c.loop.chosen.ok), omega (arith, more, c.requires.room.1, inv.front)) in
-    let added = read_holds (λ (v : Wait). c.list_announced-listed.new.front.items ≡ c.loop.front.items ++ passing (shares c.args.rows.now.rows.items c.args.attrs.now) (v ∷ [])) ws c.in-Some.slot v.0 v.1 (c.list_announced-listed.ensures.all have) in
+    let added = read_holds (λ (v : Wait). c.list_announced-listed.new.front.items ≡ c.loop.front.items ++ passing (shares c.args.rows.now.rows.items c.args.attrs.now) (v ∷ [])) ws c.in-Some.slot v.0 v.1 c.list_announced-listed.ensures.all in
     elim c.if-slot-self.branch [
       | then-slot-self w ↦
           let which : c.in-Some.slot ≡ c.loop.first = of_first c.in-Some.slot c.loop.first c.loop.late was.sorted c.in-Some.ensures.either w.if-slot-self.true inv.past in

@@ -1,4 +1,4 @@
-use Rattle.std.proofs.Common.{◌≡◌, ◌+◌, ◌≤◌, [], min}
+use Rattle.std.proofs.Common.{◌≡◌, ◌+◌, ◌≤◌, min}
 use Rattle.std.specs.Vec.{vec_capacity}
 use Rattle.std.specs.Prelude.{List, Option, None, vec_len}
 use Rattle.rs_rows.specs.Rows.{Row}
@@ -14,6 +14,6 @@ invariant-loop l = record {
   past : l.self.sorted ≤ l.late;
   within : l.late ≤ vec_len l.self.slots;
   far : l.counter + l.self.sorted ≤ min l.first l.self.sorted + l.late;
-  are : (rows : List (Option Row)) → AreChosen rows l.self.slots.items None l.fn.chosen.items l.fn.front.items → AreChosen rows l.self.slots.items None l.chosen.items l.front.items;
-  all : l.room ≤ vec_capacity l.fn.chosen → l.room ≤ vec_capacity l.fn.front → l.fn.chosen.items ≡ [] → l.fn.front.items ≡ [] → AreCollected is_withdrawn l.self.slots.items l.self.sorted l.room l.first l.late l.front.items;
+  are : (rows : List (Option Row)) → AreChosen rows l.self.slots.items None l.chosen.items l.front.items;
+  all : AreCollected is_withdrawn l.self.slots.items l.self.sorted l.room l.first l.late l.front.items;
 }

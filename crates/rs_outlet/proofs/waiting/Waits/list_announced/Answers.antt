@@ -24,12 +24,12 @@ returns-clause-are c = λ are.
     (chosen_announced c.args.rows.now.rows.items c.args.self.now.slots.items c.args.slot c.index-wait.result.now c.args.attrs.now c.args.self.now.apart (search rules) c.index-wait.ensures c.len-len.ensures.prefix c.if-not-wait.false (c.waits_for.ensures.said c.if-not-waits_for.false) (c.waits_for.ensures.row c.if-not-waits_for.false))
 
 pub returns-clause-all : goal.returns-clause-all
-returns-clause-all c = λ room.
+returns-clause-all c =
     let w = c.index-wait.result.now in
     let rows = c.args.rows.now.rows.items in
     let m = c.args.attrs.now in
     at_slot (λ (w : Wait). c.list_slot.new.front.items ≡ c.args.front.now.items ++ passing (shares rows m) (w ∷ [])) c.args.self.now.slots.items c.args.slot w (search rules) c.index-wait.ensures
-    (c.list_slot.ensures.prefix room
+    (c.list_slot.ensures.prefix
     ∙ ap (λ (ps : List Prefix). c.args.front.now.items ++ ps) (sym (passing_one (shares rows m) w
     (ap (λ b. b && has_attributes (shown (row_by rows w.due)) m) c.if-not-wait.false ∙ sym c.waits_for.ensures.just ∙ c.if-not-waits_for.false))))
 
@@ -40,14 +40,14 @@ none_listed rows m ws n w ps below is none =
     (sym (append-nil ps) ∙ ap (λ (qs : List Prefix). ps ++ qs) (sym (passing_none (shares rows m) w none)))
 
 pub returns-then-not-wait-clause-all : goal.returns-then-not-wait-clause-all
-returns-then-not-wait-clause-all c = λ room.
+returns-then-not-wait-clause-all c =
     let w = c.index-wait.result.now in
     let rows = c.args.rows.now.rows.items in
     none_listed rows c.args.attrs.now c.args.self.now.slots.items c.args.slot w c.args.front.now.items (search rules) c.index-wait.ensures
     (ap (λ o. o && has_attributes (shown (row_by rows w.due)) c.args.attrs.now) c.if-not-wait.true)
 
 pub returns-then-not-waits_for-clause-all : goal.returns-then-not-waits_for-clause-all
-returns-then-not-waits_for-clause-all c = λ room.
+returns-then-not-waits_for-clause-all c =
     let w = c.index-wait.result.now in
     let rows = c.args.rows.now.rows.items in
     none_listed rows c.args.attrs.now c.args.self.now.slots.items c.args.slot w c.args.front.now.items (search rules) c.index-wait.ensures
