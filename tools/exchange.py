@@ -28,15 +28,16 @@ A file that is of no member any more is named on standard error, and stays. The 
 command line.
 """
 import argparse
+import ipaddress
 import json
 import pathlib
 import re
 import sys
 
 BOGONS = (
-    "0.0.0.0/8^+", "10.0.0.0/8^+", "100.64.0.0/10^+", "127.0.0.0/8^+", "169.254.0.0/16^+", "172.16.0.0/12^+", "192.0.0.0/24^+",
-    "192.0.2.0/24^+", "192.168.0.0/16^+", "198.18.0.0/15^+", "198.51.100.0/24^+", "203.0.113.0/24^+", "224.0.0.0/3^+",
-    "0.0.0.0/0^0-7", "0.0.0.0/0^25-32",
+    "0.0.0.0/0^0-7", "0.0.0.0/0^25-32", "0.0.0.0/8^+", "10.0.0.0/8^+", "100.64.0.0/10^+", "127.0.0.0/8^+", "169.254.0.0/16^+",
+    "172.16.0.0/12^+", "192.0.0.0/24^+", "192.0.2.0/24^+", "192.168.0.0/16^+", "198.18.0.0/15^+", "198.51.100.0/24^+", "203.0.113.0/24^+",
+    "224.0.0.0/3^+",
 )
 MOST_ENTRIES = 1 << 20
 NAME_OCTETS = 32
@@ -78,6 +79,12 @@ def only_value(path, document):
     return values[0]
 
 
+def begins(entry):
+    """What the order of prefixes goes by: the first address, and the widest first of those that begin together."""
+    network = ipaddress.IPv4Network(entry["prefix"], strict=False)
+    return int(network.network_address), network.prefixlen
+
+
 def ranged(entry):
     """A prefix of bgpq4's JSON with its range operator (RFC 2622, 2)."""
     prefix = entry["prefix"]
@@ -88,14 +95,15 @@ def ranged(entry):
     return f"{prefix}^{least}" if least == most else f"{prefix}^{least}-{most}"
 
 
-def entries(folder, name, kind, write):
-    """The entries of a macro's list, as TOML has them; none where its file is missing."""
+def entries(folder, name, kind, place, write):
+    """The entries of a macro's list, as TOML has them, in the order of the server's search, which then keeps them once; none where
+    its file is missing."""
     path = folder / f"{plain(name)}.{kind}.json"
     if not path.exists():
         print(f"{path} is missing: nothing is in {name}'s {kind}", file=sys.stderr)
         return []
     try:
-        found = [write(it) for it in only_value(path, read(path))]
+        found = [write(it) for it in sorted(only_value(path, read(path)), key=place)]
     except (KeyError, TypeError, ValueError) as error:
         raise Fault(f"{path}: {error!r}") from error
     if len(found) > MOST_ENTRIES:
@@ -203,8 +211,8 @@ def configuration(arguments):
         macro = ipv4.get("as_macro") or f"AS{number}"
         if macro not in lists:
             lists[macro] = names.of(macro)
-            prefixes = entries(arguments.registered, macro, "prefixes", ranged)
-            part = named_list(lists[macro], prefixes, entries(arguments.registered, macro, "ases", int))
+            prefixes = entries(arguments.registered, macro, "prefixes", begins, ranged)
+            part = named_list(lists[macro], prefixes, entries(arguments.registered, macro, "ases", int, int))
             if arguments.lists:
                 put(arguments.lists, lists[macro], part)
             else:

@@ -3,12 +3,12 @@ use Rattle.std.specs.Prelude.{◌≡◌, ℕ, ◌≤◌, ◌<◌, ◌+◌, ◌-�
 use Rattle.std.specs.List.{list_any}
 use Rattle.rs_lists.specs.declared.Span.{Span}
 
--- the numbers from low to high, with lengths from min to max
-abbrev pub span : ℕ → ℕ → ℕ → ℕ → Span
-span low high min max = record { low = low; high = high; min = min; max = max; above = 0 }
+-- the numbers from low to high, with lengths from min to max, and what their owner keeps with them
+abbrev pub span : ℕ → ℕ → ℕ → ℕ → ℕ → Span
+span low high min max tag = record { low = low; high = high; min = min; max = max; tag = tag; above = 0 }
 
 abbrev pub no_span : Span
-no_span = span 0 0 0 0
+no_span = span 0 0 0 0 0
 
 abbrev pub span_at : List Span → ℕ → Span
 span_at spans i = slice_index_or spans i no_span

@@ -16,22 +16,55 @@ pub struct Span {
     high: u32,
     min: u8,
     max: u8,
+    /// What its owner keeps with it; no search reads it.
+    tag: u8,
     /// How many spans of a list stand up to the nearest one before this one that reaches it.
     above: u32,
 }
 
 impl Span {
-    /// The numbers from `low` to `high`, with lengths from `min` to `max`.
-    pub fn new(low: u32, high: u32, min: u8, max: u8) -> Span
-        ensures { result ≡ span low high min max }
+    /// The numbers from `low` to `high`, with lengths from `min` to `max`, and what is kept with them.
+    pub fn new(low: u32, high: u32, min: u8, max: u8, tag: u8) -> Span
+        ensures { result ≡ span low high min max tag }
     {
         Span {
             low,
             high,
             min,
             max,
+            tag,
             above: 0,
         }
+    }
+
+    pub fn low(&self) -> u32
+        ensures { result ≡ self.now.low }
+    {
+        self.low
+    }
+
+    pub fn high(&self) -> u32
+        ensures { result ≡ self.now.high }
+    {
+        self.high
+    }
+
+    pub fn min(&self) -> u8
+        ensures { result ≡ self.now.min }
+    {
+        self.min
+    }
+
+    pub fn max(&self) -> u8
+        ensures { result ≡ self.now.max }
+    {
+        self.max
+    }
+
+    pub fn tag(&self) -> u8
+        ensures { result ≡ self.now.tag }
+    {
+        self.tag
     }
 }
 
@@ -158,5 +191,12 @@ impl Index {
         ensures { result ≡ is_listed n len self.now }
     {
         is_listed(&self.spans, n, len)
+    }
+
+    /// The ranges, in the order in which they are searched.
+    pub fn spans(&self) -> &[Span]
+        ensures { result.now ≡ self.now }
+    {
+        &self.spans
     }
 }

@@ -2,6 +2,7 @@
 
 mod arrays;
 mod clients;
+mod indexed;
 pub(crate) mod named_lists;
 mod policies;
 mod replacing;

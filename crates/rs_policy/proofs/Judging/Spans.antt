@@ -1,6 +1,6 @@
 -- A prefix is in a range where the range's span covers it.
 use Rattle.std.proofs.Common.{◌≡◌, ◌≤◌, ◌<◌, ℕ, ◌+◌, ◌-◌, ◌*◌, ◌/◌, ◌^◌, ◌==◌, ◌&&◌, nat_le, sym, ap, ◌∙◌, subst, rules, false}
-use Rattle.std.proofs.Common.{Bool, ◌||◌, List, [], ◌∷◌, ◌++◌, take, length, get_or}
+use Rattle.std.proofs.Common.{Bool, ◌||◌, suc, refl, map, List, [], ◌∷◌, ◌++◌, take, length, get_or}
 use Rattle.std.specs.List.{list_any}
 use Rattle.std.proofs.lemmas.List.Folds.{list_any-append, list_any_more}
 use Rattle.std.proofs.Math.Nat.{lt-div-mul-add, div-mul-le_self, add-mul-div_right, div-eq_of_lt}
@@ -37,10 +37,10 @@ decided : (f g a b d l m x r k : ℕ) → (f ≡ g → b ≤ a) → (f ≡ g →
     → (nat_le b a && (nat_le a (b + (d - 1)) && (nat_le k l && nat_le l x))) ≡ ((nat_le r l && f == g) && (nat_le m l && nat_le l x))
 decided f g a b d l m x r k p q s pos own said least = search rules
 
-pub range_covers : (r : Range) (p : Prefix) (k : ℕ) → 0 < 2 ^ (32 - r.prefix.len) → front r.prefix.len r.prefix.bits * 2 ^ (32 - r.prefix.len) ≡ r.prefix.bits
+pub range_covers : (r : Range) (p : Prefix) (k t : ℕ) → 0 < 2 ^ (32 - r.prefix.len) → front r.prefix.len r.prefix.bits * 2 ^ (32 - r.prefix.len) ≡ r.prefix.bits
     → r.prefix.len ≤ k → r.min ≤ k → ((len : ℕ) → r.prefix.len ≤ len → r.min ≤ len → k ≤ len)
-    → covers p.bits p.len (span r.prefix.bits (r.prefix.bits + (2 ^ (32 - r.prefix.len) - 1)) k r.max) ≡ in_range r p
-range_covers r p k pos whole own said least =
+    → covers p.bits p.len (span r.prefix.bits (r.prefix.bits + (2 ^ (32 - r.prefix.len) - 1)) k r.max t) ≡ in_range r p
+range_covers r p k t pos whole own said least =
     let d = 2 ^ (32 - r.prefix.len) in
     decided (p.bits / d) (r.prefix.bits / d) p.bits r.prefix.bits d p.len r.min r.max r.prefix.len k
     (above_low p.bits r.prefix.bits d pos whole) (below_high p.bits r.prefix.bits d pos whole) (fronts_same p.bits r.prefix.bits d pos whole) pos
@@ -84,9 +84,19 @@ pub last_of : (p : Prefix) (from len : ℕ) → IsIpv4Prefix p → from ≡ p.bi
     → from + (1 * 2 ^ (32 - len) % 18446744073709551616 - 1) < 2 ^ 32
 last_of p from len h e f = rw (e, f, size_is p.len) (last_fits p.bits p.len h.1 h.0 h.2)
 
-pub span_covers : (r : Range) (low from len k : ℕ) (s : Span) → IsIpv4Prefix r.prefix → low ≡ r.prefix.bits → from ≡ r.prefix.bits → len ≡ r.prefix.len
-    → s ≡ span low (from + (1 * 2 ^ (32 - len) % 18446744073709551616 - 1)) k r.max
+pub span_covers : (r : Range) (low from len k t : ℕ) (s : Span) → IsIpv4Prefix r.prefix → low ≡ r.prefix.bits → from ≡ r.prefix.bits → len ≡ r.prefix.len
+    → s ≡ span low (from + (1 * 2 ^ (32 - len) % 18446744073709551616 - 1)) k r.max t
     → r.prefix.len ≤ k → r.min ≤ k → ((l : ℕ) → r.prefix.len ≤ l → r.min ≤ l → k ≤ l)
     → (p : Prefix) → covers p.bits p.len s ≡ in_range r p
-span_covers r low from len k s h a e f whole own said least p =
-    rw (whole, a, e, f, size_is r.prefix.len) (range_covers r p k (size_some r.prefix.len) h.2 own said least)
+span_covers r low from len k t s h a e f whole own said least p =
+    rw (whole, a, e, f, size_is r.prefix.len) (range_covers r p k t (size_some r.prefix.len) h.2 own said least)
+
+-- spans have some ranges if each has the one at its place
+pub mapped_by_places : {A B : Type 0} (f : A → B) (xs : List A) (ys : List B) → length xs ≡ length ys
+    → ((k : ℕ) (a : A) (b : B) → k < length xs → f (get_or xs k a) ≡ get_or ys k b) → map f xs ≡ ys
+mapped_by_places f [] [] e h = refl
+mapped_by_places f [] (y ∷ ys) e h = search rules
+mapped_by_places f (x ∷ xs) [] e h = search rules
+mapped_by_places f (x ∷ xs) (y ∷ ys) e h =
+    ap (λ z. z ∷ map f xs) (h 0 x y (omega arith))
+    ∙ ap (λ zs. y ∷ zs) (mapped_by_places f xs ys (omega (arith, e)) (λ k a b l. h (suc k) a b (omega (arith, l))))

@@ -1,70 +1,29 @@
 //! The lists that rules name.
 
-ghost use Rattle.std.specs.Prelude.{◌≡◌, ◌≤◌, ◌<◌, ◌^◌, length, ℕ, IfOk, option_map, is_some};
+ghost use Rattle.std.specs.Prelude.{◌≡◌, ◌≤◌, length, IfOk, option_map};
 ghost use Rattle.std.specs.List.{list_any};
-ghost use Rattle.rs_lists.specs.Lists.{covers};
-ghost use Rattle.rs_octets.specs.Prefixes.{Prefix};
 ghost use Rattle.toml.specs.Data.{as_array};
 ghost use Rattle.toml.specs.View.{view};
 ghost use Rattle.rs_policy.specs.Seen.{data_of, seen};
 ghost use Rattle.rs_policy.specs.declared.faults.Key.TheVariants as Key;
 ghost use Rattle.rs_policy.specs.Values.{answer, Answers, AnswersItems, array_at, entries_from, list_of};
-ghost use Rattle.rs_policy.specs.Indexed.{AreAsesIndexed, AreIndexed};
-ghost use Rattle.rs_policy.specs.Verdicts.{has_as, has_prefix, in_as_range, in_range};
+ghost use Rattle.rs_policy.specs.Verdicts.{has_as, has_prefix};
 ghost use Rattle.rs_policy.specs.NamedLists.{ases_at, entries_needed, is_same_name, named_list_checks, named_list_from, named_lists_checks, named_lists_from, prefixes_at};
 
 use crate::config::arrays::{array_in, refuse_others};
 use crate::config::clients::name_in;
+use crate::config::indexed::{Ases, Prefixes};
 use crate::config::top::TOP;
 use crate::config::values::{AsEntry, Kind, PrefixEntry, find};
 use crate::faults::{ConfigFault, Key, Place, Table};
 use crate::keys::LIST_KEYS;
-use crate::rules::Range;
-use rs_lists::{Index, Span};
 use rs_octets::Prefix;
-use std::alloc::{AllocError, Global};
+use std::alloc::Global;
 use std::marker::Model;
 use toml::value::Value;
 
 /// The most entries of an array.
 const MOST: usize = 1_048_576;
-
-/// Ranges of prefixes, as they stand in the text and as they are searched.
-#[derive(Drop)]
-pub(crate) struct Prefixes {
-    ranges: Vec<Range>,
-    index: Index,
-}
-
-impl Model for Prefixes {
-    ghost use Rattle.std.specs.Prelude.{List};
-    ghost use Rattle.rs_policy.specs.declared.rules.Range.{Range};
-    ghost use Rattle.rs_policy.specs.Indexed.{AreIndexed};
-
-    ghost Value = { List Range };
-
-    ghost view = { λ p. p.ranges.items };
-
-    ghost invariant = { λ p. AreIndexed p.ranges.items p.index };
-}
-
-/// AS numbers, likewise.
-#[derive(Drop)]
-pub(crate) struct Ases {
-    ranges: Vec<(u32, u32)>,
-    index: Index,
-}
-
-impl Model for Ases {
-    ghost use Rattle.std.specs.Prelude.{List, ℕ};
-    ghost use Rattle.rs_policy.specs.Indexed.{AreAsesIndexed};
-
-    ghost Value = { List (ℕ × ℕ) };
-
-    ghost view = { λ a. a.ranges.items };
-
-    ghost invariant = { λ a. AreAsesIndexed a.ranges.items a.index };
-}
 
 /// A list that rules name.
 #[derive(Drop)]
@@ -81,91 +40,6 @@ impl Model for NamedList {
     ghost Value = { NamedList };
 
     ghost view = { λ l. record { name = string_bytes l.name; prefixes = l.prefixes; ases = l.ases } };
-}
-
-/// The least length that a range takes.
-fn least(range: &Range) -> u8
-    ensures own { range.now.prefix.len ≤ result }
-    ensures said { range.now.min ≤ result }
-    ensures least { (len : ℕ) → range.now.prefix.len ≤ len → range.now.min ≤ len → result ≤ len }
-{
-    let len = range.prefix.len();
-    if range.min < len { len } else { range.min }
-}
-
-/// The numbers of a prefix's addresses, with the lengths of a range.
-fn span_of(range: &Range) -> Span
-    ensures { (p : Prefix) → covers p.bits p.len result ≡ in_range range.now p }
-{
-    let low = range.prefix.bits();
-    let len = range.prefix.len();
-    let size = 1_u64 << (32 - len);
-    let last = u64::from(low) + (size - 1);
-    Span::new(low, last as u32, least(range), range.max)
-}
-
-fn as_span(range: (u32, u32)) -> Span
-    ensures { (n : ℕ) → covers n 0 result ≡ in_as_range range n }
-{
-    Span::new(range.0, range.1, 0, 0)
-}
-
-/// The spans of some ranges of prefixes.
-fn prefix_spans(alloc: Global, ranges: &[Range]) -> Result<Vec<Span>, AllocError>
-    ensures indexed { IfOk result (λ v. AreIndexed ranges.now v.items) }
-    ensures count { IfOk result (λ v. length v.items ≡ length ranges.now) }
-{
-    let mut spans = Vec::with_capacity(alloc, ranges.len())?;
-    for range in ranges {
-        spans.push(span_of(range))?;
-    }
-    Ok(spans)
-}
-
-/// The spans of some ranges of AS numbers.
-fn as_spans(alloc: Global, ranges: &[(u32, u32)]) -> Result<Vec<Span>, AllocError>
-    ensures indexed { IfOk result (λ v. AreAsesIndexed ranges.now v.items) }
-    ensures count { IfOk result (λ v. length v.items ≡ length ranges.now) }
-{
-    let mut spans = Vec::with_capacity(alloc, ranges.len())?;
-    for range in ranges {
-        spans.push(as_span(*range))?;
-    }
-    Ok(spans)
-}
-
-impl Prefixes {
-    fn of(alloc: Global, ranges: Vec<Range>) -> Result<Prefixes, AllocError>
-        requires { length ranges.items ≤ 1048576 }
-        ensures { IfOk result (λ p. p ≡ ranges.items) }
-    {
-        let spans = prefix_spans(alloc, &ranges)?;
-        let index = Index::of(spans);
-        Ok(Prefixes { ranges, index })
-    }
-
-    fn has(&self, prefix: &Prefix) -> bool
-        ensures { result ≡ list_any (λ r. in_range r prefix.now) self.now }
-    {
-        self.index.covers(prefix.bits(), prefix.len())
-    }
-}
-
-impl Ases {
-    fn of(alloc: Global, ranges: Vec<(u32, u32)>) -> Result<Ases, AllocError>
-        requires { length ranges.items ≤ 1048576 }
-        ensures { IfOk result (λ a. a ≡ ranges.items) }
-    {
-        let spans = as_spans(alloc, &ranges)?;
-        let index = Index::of(spans);
-        Ok(Ases { ranges, index })
-    }
-
-    fn has(&self, number: u32) -> bool
-        ensures { result ≡ list_any (λ r. in_as_range r number) self.now }
-    {
-        self.index.covers(number, 0)
-    }
 }
 
 /// The array at a key of a list, at most so long.

@@ -1,6 +1,6 @@
 use Rattle.std.proofs.Common.{◌∙◌, ◌+◌, ◌-◌, ◌*◌, ◌%◌, ◌^◌, ◌<◌, arith}
 use Rattle.rs_policy.proofs.Judging.Spans.{last_of, span_covers}
-use Rattle.rs_policy.proofs.config.named_lists.span_of.Goals as goal
+use Rattle.rs_policy.proofs.config.indexed.span_of.Goals as goal
 
 pub overflow_cast-last : goal.overflow_cast-last
 overflow_cast-last c =
@@ -10,5 +10,5 @@ overflow_cast-last c =
 
 pub returns : goal.returns
 returns c =
-    span_covers c.args.range.now _ _ _ _ _ c.len-len.ensures.prefix c.bits-low.ensures (c.from.ensures ∙ c.bits-low.ensures) c.len-len.ensures.value
+    span_covers c.args.range.now _ _ _ _ _ _ c.len-len.ensures.prefix c.bits-low.ensures (c.from.ensures ∙ c.bits-low.ensures) c.len-len.ensures.value
     c.new.ensures c.least.ensures.own c.least.ensures.said c.least.ensures.least

@@ -3,7 +3,7 @@ use Rattle.std.proofs.lemmas.List.{get_or_default}
 use Rattle.rs_lists.specs.Lists.{covers}
 use Rattle.rs_policy.specs.Verdicts.{in_as_range}
 use Rattle.rs_policy.proofs.Judging.Spans.{one_more}
-use Rattle.rs_policy.proofs.config.named_lists.as_spans.Goals as goal
+use Rattle.rs_policy.proofs.config.indexed.as_spans.Goals as goal
 
 pub loop-range-preserved : goal.loop-range-preserved
 loop-range-preserved c =

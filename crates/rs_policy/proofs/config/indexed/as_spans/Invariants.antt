@@ -1,6 +1,6 @@
 use Rattle.std.proofs.Common.{◌≡◌, take, length}
 use Rattle.rs_policy.specs.Indexed.{AreAsesIndexed}
-use Rattle.rs_policy.proofs.config.named_lists.as_spans.Given as goal
+use Rattle.rs_policy.proofs.config.indexed.as_spans.Given as goal
 
 abbrev pub invariant-loop-range : goal.invariant-loop-range
 invariant-loop-range l = record {

@@ -2,7 +2,7 @@ use Rattle.std.proofs.Common.{◌≡◌, [], ◌∷◌, ◌++◌, arith, length-
 use Rattle.rs_lists.specs.Lists.{covers}
 use Rattle.rs_policy.specs.Verdicts.{in_range}
 use Rattle.rs_policy.proofs.Judging.Spans.{one_more}
-use Rattle.rs_policy.proofs.config.named_lists.prefix_spans.Goals as goal
+use Rattle.rs_policy.proofs.config.indexed.prefix_spans.Goals as goal
 
 pub loop-range-preserved : goal.loop-range-preserved
 loop-range-preserved c =
