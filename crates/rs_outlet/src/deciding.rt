@@ -19,7 +19,7 @@ use crate::chosen::choose_once;
 use crate::memo::{Judged, recall};
 use crate::stripped::Stripped;
 use rs_adjin::{AdjIns, Holder, Holders};
-use rs_attrs::{Attrs, Strip, attributes_are_legal};
+use rs_attrs::{Attrs, Strip, TagMarks, attributes_are_legal};
 use rs_decision::Rank;
 use rs_octets::Prefix;
 use rs_packer::fits;
@@ -36,8 +36,8 @@ pub(crate) struct Sources<'a> {
     pub(crate) client: usize,
     /// The client's export rules judge routes with the same attributes and note alike.
     pub(crate) alike: bool,
-    /// The client has what its senders' import lists pass plainly as it is.
-    pub(crate) plain: bool,
+    /// What its senders' import lists pass plainly the client has as it is, where it has none of the communities that these ask for.
+    pub(crate) asked: Option<TagMarks>,
 }
 
 /// What one decision of a turn leaves to the next: room for ranks, what became of the last route, and choices that serve
@@ -173,8 +173,8 @@ fn pass_by_rules<'a>(
     }
 }
 
-/// The route as it is passed on. Where the client's export rules ask for no prefix, they are asked once of routes that one
-/// UPDATE announced, which are decided one after the other.
+/// The route as it is passed on. The client's export rules aren't asked where they ask for communities alone and it has none of
+/// these; and where they ask for no prefix, once of routes that one UPDATE announced, which are decided one after the other.
 fn pass_on<'a>(
     sources: &Sources<'a>,
     number: u32,
@@ -190,7 +190,10 @@ fn pass_on<'a>(
     ensures passed { IfOk result (λ passed. option_map attributes_passed passed ≡ passed_on (arc_value holder.now.attrs.now) (verdict sources.now.config.now holder.now.client sources.now.client prefix.now (arc_value holder.now.attrs.now))) }
     ensures memo { IsMemo sources.now.config.now sources.now.client memo.new }
 {
-    if sources.plain && is_plain_note(holder.note) {
+    if let Some(asked) = sources.asked
+        && is_plain_note(holder.note)
+        && holder.attrs.lacks(asked)
+    {
         // for the prover: where no pattern takes anything out, they stay as they are
         attributes_are_legal(holder.attrs);
         return Ok(Some(Passed::Whole(holder.attrs)));

@@ -3,6 +3,7 @@ pub mod Sets
 pub mod Spans
 pub mod Written
 pub mod WithoutRules
+pub mod Unasked
 pub mod Placed
 pub mod Noted
 pub mod Prefixes

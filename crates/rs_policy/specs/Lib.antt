@@ -19,3 +19,4 @@ pub mod Sound
 pub mod Texts
 pub mod Values
 pub mod Verdicts
+pub mod Unasked

@@ -1,6 +1,7 @@
 //! Rules as values.
 
 pub(crate) mod alike;
+pub(crate) mod asked;
 mod matching;
 pub(crate) mod noting;
 mod offer;

@@ -1,7 +1,8 @@
 -- The tables that the code decides by.
-use Rattle.std.specs.Prelude.{◌≡◌, ◌<◌, true, length}
+use Rattle.std.specs.Prelude.{◌≡◌, ◌<◌, true, Some, length}
 use Rattle.rs_adjin.specs.AdjIns.{client_count, held_of, identifier_of, AreNoted}
 use Rattle.rs_adjin.specs.declared.adj_ins.AdjIns.{AdjIns}
+use Rattle.rs_attrs.specs.declared.marks.TagMarks.{TagMarks}
 use Rattle.rs_policy.specs.Alike.{PassesPlainly, PrefixesAreAlike}
 use Rattle.rs_policy.specs.Configuration.{Configuration}
 use Rattle.rs_policy.specs.Noted.{note_of_import}
@@ -21,4 +22,4 @@ pub record AreOfOneServer (s : Sources) : Type 0 where
   pub count : client_count s.ins.now ≡ length s.config.now.clients
   pub noted : AreNoted (note_of_import s.config.now) s.ins.now
   pub alike : s.alike ≡ true → PrefixesAreAlike s.config.now s.client
-  pub plain : s.plain ≡ true → PassesPlainly s.config.now s.client
+  pub plain : (asked : TagMarks) → s.asked ≡ Some asked → PassesPlainly s.config.now s.client asked

@@ -1,5 +1,5 @@
 -- Lists with the rules that they use written out.
-use Rattle.std.proofs.Common.{◌≡◌, ℕ, ◌+◌, ◌<◌, ◌≤◌, Bool, List, ◌++◌, length, drop, get_or, find, Option, Some, None, option_map, refl, sym, ap, ◌∙◌}
+use Rattle.std.proofs.Common.{◌≡◌, ℕ, ◌+◌, ◌<◌, ◌≤◌, Bool, List, ◌∷◌, ◌++◌, length, drop, get_or, find, Option, Some, None, option_map, refl, sym, ap, ◌∙◌}
 use Rattle.std.specs.Option.{option_or}
 use Rattle.std.proofs.lemmas.List.{drop_more, drop_all}
 use Rattle.std.proofs.lemmas.List.Folds.{find-append}
@@ -15,11 +15,15 @@ none_found : (o : Option Rule) → option_map (λ rule. rule.action) o ≡ None 
 none_found None e = refl
 none_found (Some rule) e = cc
 
+-- what is left of a list from one place on
+pub drop_here : {A : Type 0} (xs : List A) (i : ℕ) (x : A) → i < length xs → x ≡ get_or xs i x → drop i xs ≡ x ∷ drop (i + 1) xs
+drop_here xs i x within is = drop_more xs i x within ∙ ap (λ y. y ∷ drop (i + 1) xs) (sym is)
+
 -- the rules from one place on
 written_next : (shared : List SharedRules) (items : List Item) (i : ℕ) (item : Item) → i < length items → item ≡ get_or items i item
     → written_out shared (drop i items) ≡ rules_in shared item ++ written_out shared (drop (i + 1) items)
 written_next shared items i item within is =
-    ap (written_out shared) (drop_more items i item within) ∙ ap (λ x. rules_in shared x ++ written_out shared (drop (i + 1) items)) (sym is)
+    ap (written_out shared) (drop_here items i item within is)
 
 -- none there matches
 pub none_there : (test : Rule → Bool) (shared : List SharedRules) (items : List Item) (i : ℕ) (item : Item) → i < length items → item ≡ get_or items i item

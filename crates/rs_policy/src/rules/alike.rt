@@ -2,7 +2,7 @@
 
 ghost use Rattle.std.specs.Prelude.{◌≡◌, ◌<◌, ℕ, List, false, length, IsTrue};
 ghost use Rattle.std.specs.List.{list_any};
-ghost use Rattle.rs_policy.specs.Alike.{PassesPlainly, PrefixesAreAlike};
+ghost use Rattle.rs_policy.specs.Alike.{PrefixesAreAlike};
 ghost use Rattle.rs_policy.specs.Asking.{asks_prefix};
 ghost use Rattle.rs_policy.specs.Configuration.{rules_in};
 ghost use Rattle.rs_octets.specs.Prefixes.{Prefix};
@@ -12,7 +12,7 @@ ghost use Rattle.rs_policy.specs.Verdicts.{verdict};
 use crate::config::Config;
 use crate::config::shared_rules::SharedRules;
 use crate::rules::receivers::names_receiver;
-use crate::rules::{Disposition, Item, Rule};
+use crate::rules::{Item, Rule};
 
 /// Whether what stands at places of two lists is the use of the same rules.
 fn is_same_use(one: &Item, other: &Item) -> bool
@@ -87,17 +87,4 @@ pub fn judges_prefixes_alike(config: &Config, to: usize) -> bool
     let exports = config.export(to);
     let (items, shared) = exports.parts();
     !asks_prefix_among(shared, items)
-}
-
-/// Whether a route that its sender's import list passes plainly (`is_plain_note`) goes to a client as it is, with no preference
-/// and all communities: the client has no export rules, and what no rule decides is passed. It takes no memory.
-pub fn passes_plainly(config: &Config, to: usize) -> bool
-    requires { to < length config.now.clients }
-    ensures { IsTrue result → PassesPlainly config.now to }
-{
-    config.is_read();
-    if !config.export(to).is_empty() {
-        return false;
-    }
-    matches!(config.default(), Disposition::Pass)
 }

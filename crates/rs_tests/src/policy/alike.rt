@@ -151,3 +151,76 @@ fn it_counts_who_a_route_goes_to_where_a_community_names_a_receiver(rt: HostRunt
     }
     let_go(config);
 }
+
+/// Rules of which each asks for a community.
+const ASKED: &str =
+    "[[rules]]\nname = \"q\"\nrules = [{ community = \"64496:1\", path_has = 64999, action = \"drop\" }, { large_community = \"64500:0:peer\", action = \"drop\" }]\n";
+
+/// 64496:2
+const SHORT: &[u8] = &[0xc0, 8, 4, 0xfb, 0xf0, 0, 2];
+
+/// 64499:1 and 64500:1
+const OTHERS: &[u8] = &[0xc0, 8, 8, 0xfb, 0xf3, 0, 1, 0xfb, 0xf4, 0, 1];
+
+/// 64500:1:65551
+const LARGE: &[u8] = &[0xc0, 32, 12, 0, 0, 0xfb, 0xf4, 0, 0, 0, 1, 0, 1, 0, 0x0f];
+
+/// What no rule decides, an export list, and attributes of communities: whether the marks tell of a route with them that the list
+/// asks for none; None where a rule asks for something else, or what no rule decides is dropped.
+static UNASKED: [(&str, &str, &[u8], Option<bool>); 13] = [
+    ("pass", "", &[], Some(true)),
+    ("pass", "", LARGE, Some(true)),
+    ("drop", "", &[], None),
+    ("pass", "{ action = \"drop\" }", &[], None),
+    ("pass", "{ use = \"s\" }", &[], None),
+    ("pass", "{ use = \"q\" }", &[], Some(true)),
+    // by the first part alone
+    ("pass", "{ use = \"q\" }", SHORT, Some(false)),
+    ("pass", "{ use = \"q\" }", OTHERS, Some(true)),
+    ("pass", "{ use = \"q\" }", LARGE, Some(false)),
+    ("drop", "{ use = \"q\" }", OTHERS, None),
+    (
+        "pass",
+        "{ use = \"q\" }, { prefix_in = \"l\", action = \"drop\" }",
+        OTHERS,
+        None,
+    ),
+    // the receiver is 64497
+    (
+        "pass",
+        "{ community = \"peer:1\", action = \"drop\" }",
+        SHORT,
+        Some(true),
+    ),
+    (
+        "pass",
+        "{ community = \"peer:1\", action = \"drop\" }, { community = \"64499:*\", action = \"drop\" }",
+        OTHERS,
+        Some(false),
+    ),
+];
+
+#[test]
+fn a_route_without_the_communities_that_are_asked_for_is_known(rt: HostRuntime) {
+    for (default, list, octets, want) in &UNASKED {
+        let parts = [
+            TOP,
+            "default = \"",
+            default,
+            "\"\n",
+            CLIENT,
+            OTHER,
+            "export = [",
+            list,
+            "]\n",
+            NAMED,
+            ASKED,
+        ];
+        let config = read_parts(&rt, rt.alloc(), &parts);
+        assert!(&rt; config.clients() > 1);
+        let attrs = with_communities(&rt, rt.alloc(), octets);
+        let answer = asked_by_exports(&config, 1).map(|asked| attrs.lacks(asked));
+        is_of(&rt, answer, *want, &(default, list, octets));
+        let_go(config);
+    }
+}
