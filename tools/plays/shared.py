@@ -1,9 +1,12 @@
-"""Plays random sessions to a built rs_replay by rules that all members use, and by the same rules written out in the list of each.
+"""Plays random sessions to a built rs_replay by rules that all members use, by the same rules written out in the list of each, and by
+these behind a rule that matches no route.
 
 play.py shared PROGRAM [CASES [SEED]]
 
 What is due to a member serves the others that `use` the same rules, and one that has rules of its own is decided by itself: what
-is written must be the same. The rules are the export rules of examples/exchange.toml, which name the receiver, or some of them.
+is written must be the same. Where each rule of a list asks for a community, marks tell of most routes that none matches: behind
+a rule that asks for something else each is asked, and the same must be written. The rules are the export rules of
+examples/exchange.toml, which name the receiver, or some of them, with the last one, which asks for nothing, or without it.
 Members announce and withdraw prefixes that fill blocks of rows, of which some have communities by which these rules tell members
 apart, or others; some take little, and some are lost. Each session is played by 1 and by 3 workers.
 """
@@ -22,6 +25,8 @@ from .matching import comes_up
 
 CASES = 60
 EXAMPLE = pathlib.Path(__file__).resolve().parent.parent.parent / "examples" / "exchange.toml"
+# No path of a session has this AS number.
+MATCHES_NOTHING = '{ path_has = 4199999999, action = "drop" }'
 SERVER, FIRST, ADDRESS = 64500, 64496, 0xC000020B
 PREFIXES = 80
 
@@ -96,11 +101,16 @@ def written(program, text, lines, workers):
         return run.returncode, run.stderr, run.stdout
 
 
+def chosen_rules(draw):
+    """All of the rules, some and the last one, or some of those that ask for a community."""
+    rules = example_rules()
+    some = [it for it in rules[:-1] if draw.random() < 0.7]
+    return draw.choice([rules, some + rules[-1:], some or rules[:1]])
+
+
 def differs(program, draw):
     """What is wrong in one session, or None."""
-    members, rules = draw.randrange(3, 8), example_rules()
-    if draw.random() < 0.5:
-        rules = [it for it in rules[:-1] if draw.random() < 0.7] + rules[-1:]
+    members, rules = draw.randrange(3, 8), chosen_rules(draw)
     lines = session(draw, members)
     alone = written(program, configuration(members, rules, False), lines, 1)
     if alone[0] != 0 or alone[1]:
@@ -108,6 +118,8 @@ def differs(program, draw):
     for workers in (1, 3):
         if written(program, configuration(members, rules, True), lines, workers) != alone:
             return f"by {workers} workers otherwise where all use the rules: {' '.join(rules)}\n" + "\n".join(lines)
+    if written(program, configuration(members, [MATCHES_NOTHING, *rules], False), lines, 1) != alone:
+        return f"otherwise where each rule is asked: {' '.join(rules)}\n" + "\n".join(lines)
     return None
 
 
