@@ -6,12 +6,12 @@
 //! whoever asks, which rules decided.
 //!
 //! - `config` and its folder read a text: `top` the keys at its top, `clients` and `policies` its
-//!   tables, `rule_tables` the rules, all by `arrays`, `values` and `texts`; `replacing` says
-//!   which configuration can take the place of one that is in use.
+//!   tables, `rule_tables` the rules, `named_lists` the lists, which are searched as `indexed` has them, all by `arrays`,
+//!   `values` and `texts`; `replacing` says which configuration can take the place of one that is in use.
 //! - `rules` are rules as values; of `rules/` `matching` says which routes a rule matches, `verdict` what
 //!   becomes of a route, `noting` keeps the import list's part of it as a number, and `reasons` says which
-//!   rules decided; `alike` says of which clients and of which routes the same becomes, and `receivers` where it may
-//!   count who is sent a route.
+//!   rules decided; `alike` says of which clients and of which routes the same becomes, `receivers` where it may
+//!   count who is sent a route, and `asked` which communities an export list asks for.
 //! - `faults` says what can be wrong and where, and writes it in words; `faults/line` is such a
 //!   line; `keys` are those that each table may have.
 //! - `laws` are contracts of functions that do nothing.
