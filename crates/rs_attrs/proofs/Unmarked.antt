@@ -41,12 +41,11 @@ right_kept one other n is =
     let old = bit_at-lt one k in
     flag_from_bit k _ (bit_at_or one other k ∙ omega arith)
 
+marks_itself : (n : ℕ) → has_flag (mark_of n) (mark_of n) ≡ true
+marks_itself n = flag_from_bit (n % 32) (mark_of n) (bit_at-pow_same (n % 32))
+
 pub one_marked : (marks number : ℕ) → has_flag (mark_of number) (bit_or marks (mark_of number)) ≡ true
-one_marked marks number =
-    let k : ℕ = number % 32 in
-    let old = bit_at-lt marks k in
-    let here = bit_at-pow_same k in
-    flag_from_bit k _ (bit_at_or marks (mark_of number) k ∙ omega arith)
+one_marked marks number = right_kept marks (mark_of number) number (marks_itself number)
 
 -- what is marked stays so
 pub more_marked : (old new : ℕ) (numbers : List ℕ) → KeepsMarks old new → AreNumbersMarked old numbers → AreNumbersMarked new numbers
@@ -93,9 +92,6 @@ apart one asked n none here there =
 
 all_marked : (n : ℕ) → has_flag (mark_of n) 4294967295 ≡ true
 all_marked n = flag_from_bit (n % 32) 4294967295 (bit_at_ones 32 (n % 32) (omega arith))
-
-marks_itself : (n : ℕ) → has_flag (mark_of n) (mark_of n) ≡ true
-marks_itself n = flag_from_bit (n % 32) (mark_of n) (bit_at-pow_same (n % 32))
 
 part_unlike : (part : Option ℕ) (one asked n : ℕ) (b : Bool) → bit_and one asked ≡ 0 → has_flag (mark_of n) one ≡ true → KeepsMarks (part_marks part) asked → part_is part n ≡ b → b ≡ false
 part_unlike part one asked n false none here asks is = refl

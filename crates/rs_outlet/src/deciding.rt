@@ -173,7 +173,7 @@ fn pass_by_rules<'a>(
     }
 }
 
-/// The route as it is passed on. The client's export rules aren't asked where they ask for communities alone and it has none of
+/// The route as it is passed on. The client's export rules aren't asked where each asks for a community and it has none of
 /// these; and where they ask for no prefix, once of routes that one UPDATE announced, which are decided one after the other.
 fn pass_on<'a>(
     sources: &Sources<'a>,
