@@ -1,4 +1,4 @@
--- A rule doesn't match a route that lacks a community for which it asks.
+-- A rule doesn't match a route whose prefix isn't in its range, or that lacks a community for which it asks.
 use Rattle.std.proofs.Common.{◌≡◌, ◌==◌, ◌&&◌, ◌||◌, Bool, not, Some, None, true, false, List, [], ◌∷◌, refl, sym, ap, ◌∙◌}
 use Rattle.std.specs.Prelude.{if◌then◌else◌}
 use Rattle.std.specs.List.{list_any}
@@ -10,6 +10,7 @@ use Rattle.rs_policy.specs.Configuration.{NamedList, list_at}
 use Rattle.rs_policy.specs.Verdicts.{AnnouncedRoute, attributes_match, has_community, has_large_community, has_prefix, holds, in_range, matches, next_hop_is_peer, origin_as_is, origin_in, path_matches}
 use Rattle.rs_policy.specs.declared.rules.CommunityTest.{CommunityTest}
 use Rattle.rs_policy.specs.declared.rules.LargeCommunityTest.{LargeCommunityTest}
+use Rattle.rs_policy.specs.declared.rules.Range.{Range}
 use Rattle.rs_policy.specs.declared.rules.Rule.{Rule}
 
 -- where none is like what each is like, there is none
@@ -22,6 +23,16 @@ no_community m none = none_there (is_like (record { high = None; low = None })) 
 
 pub no_large_community : (m : List Attribute) → list_any (is_like_large (record { global = None; first = None; second = None })) (large_communities_of m) ≡ false → large_communities_of m ≡ []
 no_large_community m none = none_there (is_like_large (record { global = None; first = None; second = None })) (λ c. refl) (large_communities_of m) none
+
+pub out_of_range : (lists : List NamedList) (rule : Rule) (r : AnnouncedRoute) (range : Range) → rule.range ≡ Some range → in_range range r.prefix ≡ false → matches lists rule r ≡ false
+unfolding matches
+out_of_range lists rule r range asks out =
+    let rest =
+    holds (λ n. has_prefix (list_at lists n) r.prefix) rule.tests.prefix_in
+    && (holds (λ c. c == r.from) rule.tests.from
+    && (holds (λ b. if b then next_hop_is_peer r else not (next_hop_is_peer r)) rule.tests.next_hop_is_peer
+    && attributes_match lists rule.tests r)) in
+    ap (λ o. holds (λ range. in_range range r.prefix) o && rest) asks ∙ ap (λ b. b && rest) out
 
 -- where the attributes don't match
 fails : (lists : List NamedList) (rule : Rule) (r : AnnouncedRoute) → attributes_match lists rule.tests r ≡ false → matches lists rule r ≡ false

@@ -1,6 +1,6 @@
 //! Which routes a rule matches.
 
-ghost use Rattle.std.specs.Prelude.{◌≡◌, ◌≤◌, List, false, IsTrue};
+ghost use Rattle.std.specs.Prelude.{◌≡◌, ◌≤◌, List, false, not, IsTrue};
 ghost use Rattle.std.specs.List.{list_any};
 ghost use Rattle.rs_attrs.specs.Getters.{path_of};
 ghost use Rattle.rs_policy.specs.Verdicts.{attributes_match, front, has_as, has_prefix, in_range, matches, next_hop_is_peer, origin_as_is, origin_in, path_in, path_matches, first_as, first_as_is_peer, has_community, has_large_community};
@@ -13,6 +13,7 @@ use crate::rules::{CommunityTest, LargeCommunityTest, Range, Rule, Tests};
 use rs_attrs::{Attrs, PathSegment};
 use rs_octets::Prefix;
 
+#[inline(always)]
 fn front(len: u8, bits: u32) -> u64
     requires { len ≤ 32 }
     ensures { result ≡ front len bits }
@@ -20,6 +21,8 @@ fn front(len: u8, bits: u32) -> u64
     u64::from(bits) >> (32 - len)
 }
 
+/// Whether a prefix is in a range, in two shifts and a few comparisons: import lists ask it of each route for many ranges.
+#[inline(always)]
 fn is_in_range(range: &Range, prefix: &Prefix) -> bool
     ensures { result ≡ in_range range.now prefix.now }
 {
@@ -137,6 +140,8 @@ fn path_matches(lists: &[NamedList], tests: &Tests, offer: &Offer<'_, '_>) -> bo
     true
 }
 
+/// Whether a community is as a test asks. It walks over them, and so stays a call of its own.
+#[inline(never)]
 fn has_community(test: CommunityTest, offer: &Offer<'_, '_>) -> bool
     ensures { result ≡ has_community test (offered offer.now) }
 {
@@ -144,6 +149,8 @@ fn has_community(test: CommunityTest, offer: &Offer<'_, '_>) -> bool
     offer.tags.has_community_like(&pattern)
 }
 
+/// The same of large communities.
+#[inline(never)]
 fn has_large_community(test: LargeCommunityTest, offer: &Offer<'_, '_>) -> bool
     ensures { result ≡ has_large_community test (offered offer.now) }
 {
@@ -179,39 +186,49 @@ fn attributes_match(lists: &[NamedList], tests: &Tests, offer: &Offer<'_, '_>) -
     path_matches(lists, tests, offer)
 }
 
-/// Whether it is told without looking at one that no community is as a test asks: there is none at all, or none of its first part.
-fn surely_lacks(test: CommunityTest, offer: &Offer<'_, '_>) -> bool
-    ensures { IsTrue result → has_community test (offered offer.now) ≡ false }
+/// Whether no community is as a test asks. Mostly it is told with no call and without looking at one: there is none at all, or
+/// none of its first part.
+#[inline(always)]
+fn lacks_community(test: CommunityTest, offer: &Offer<'_, '_>) -> bool
+    ensures { result ≡ not (has_community test (offered offer.now)) }
 {
     if offer.lacks_communities {
         return true;
     }
     let pattern = test.pattern_for(offer.to_as);
-    offer.tags.lacks_community_like(&pattern)
+    offer.tags.lacks_community_like(&pattern) || !has_community(test, offer)
 }
 
 /// The same of large communities.
-fn surely_lacks_large(test: LargeCommunityTest, offer: &Offer<'_, '_>) -> bool
-    ensures { IsTrue result → has_large_community test (offered offer.now) ≡ false }
+#[inline(always)]
+fn lacks_large_community(test: LargeCommunityTest, offer: &Offer<'_, '_>) -> bool
+    ensures { result ≡ not (has_large_community test (offered offer.now)) }
 {
     if offer.lacks_large {
         return true;
     }
     let pattern = test.pattern_for(offer.to_as);
-    offer.tags.lacks_large_community_like(&pattern)
+    offer.tags.lacks_large_community_like(&pattern) || !has_large_community(test, offer)
 }
 
-/// Whether a rule asks for a community that the route surely hasn't: most rules of an exchange end here.
+/// Whether a rule asks for a range in which the prefix isn't, or for a community that the route hasn't: most rules of an exchange
+/// end here. It makes a call only where communities have to be looked at.
+#[inline(always)]
 fn is_passed_over(rule: &Rule, offer: &Offer<'_, '_>) -> bool
     ensures { IsTrue result → (lists : List NamedList) → matches lists rule.now (offered offer.now) ≡ false }
 {
+    if let Some(range) = &rule.range
+        && !is_in_range(range, offer.prefix)
+    {
+        return true;
+    }
     if let Some(test) = rule.tests.community
-        && surely_lacks(test, offer)
+        && lacks_community(test, offer)
     {
         return true;
     }
     if let Some(test) = rule.tests.large_community
-        && surely_lacks_large(test, offer)
+        && lacks_large_community(test, offer)
     {
         return true;
     }
@@ -219,6 +236,7 @@ fn is_passed_over(rule: &Rule, offer: &Offer<'_, '_>) -> bool
 }
 
 /// Whether a rule matches a route: all of its tests hold.
+#[inline(always)]
 pub(super) fn matches(lists: &[NamedList], rule: &Rule, offer: &Offer<'_, '_>) -> bool
     ensures { result ≡ matches lists.now rule.now (offered offer.now) }
 {
@@ -228,8 +246,8 @@ pub(super) fn matches(lists: &[NamedList], rule: &Rule, offer: &Offer<'_, '_>) -
     all_hold(lists, rule, offer)
 }
 
-/// Whether all tests of a rule hold, those that walk the attributes last. It stays a call of its own, so that for a rule that is passed
-/// over its caller's loop makes none.
+/// Whether all tests of a rule hold, those that walk the attributes last. Few rules come here, so what passes others over is asked
+/// once more. It stays a call of its own, so that its caller's loop makes none for most rules.
 #[inline(never)]
 #[tactic(auto, unfolding(crate::specs::Verdicts::matches))]
 fn all_hold(lists: &[NamedList], rule: &Rule, offer: &Offer<'_, '_>) -> bool

@@ -13,6 +13,36 @@ use crate::config::shared_rules::SharedRules;
 use crate::rules::{Item, Rule};
 use rs_attrs::{Attrs, Tags};
 
+/// Whether a test of the rules at a place of a client's list names the receiver.
+fn names_receiver_at(shared: &[SharedRules], item: &Item) -> bool
+    ensures { result ≡ rules_name_peer (rules_in shared.now item.now) }
+{
+    match item {
+        Item::Own(rule) => rule.tests.name_peer(),
+        Item::Use(place) => match shared.get(*place) {
+            None => false,
+            Some(used) => used.name_peer,
+        },
+    }
+}
+
+/// Whether one of a client's list does.
+fn names_receiver_among(shared: &[SharedRules], items: &[Item]) -> bool
+    ensures { result ≡ list_any (λ item. rules_name_peer (rules_in shared.now item)) items.now }
+{
+    items.iter().any(|item| names_receiver_at(shared, item))
+}
+
+/// Whether a test of a client's export rules names the receiver.
+pub(crate) fn names_receiver(config: &Config, to: usize) -> bool
+    requires { to < length config.now.clients }
+    ensures { result ≡ false → rules_name_peer (policy_of config.now to).export ≡ false }
+{
+    let exports = config.export(to);
+    let (items, shared) = exports.parts();
+    names_receiver_among(shared, items)
+}
+
 /// The attributes of a route, and its communities, found once for many tests.
 #[derive(Clone, Copy)]
 struct Asked<'a> {
@@ -64,50 +94,21 @@ fn asks_receiver_among(shared: &[SharedRules], items: &[Item], asked: &Asked<'_>
 }
 
 /// Whether something else may become of a route with these attributes on its way to a client than on its way to another one
-/// that has the same export rules: one of these names the receiver, and a community is as it asks. It takes no memory.
+/// that has the same export rules: one of these names the receiver, which is asked first, and a community is as it asks. It takes
+/// no memory.
 pub fn may_ask_receiver(config: &Config, to: usize, attrs: &Attrs) -> bool
     requires { to < length config.now.clients }
     ensures { result ≡ false → ReceiversAreAlike config.now to attrs.now }
 {
     config.is_read();
-    let exports = config.export(to);
-    if exports.is_empty() {
+    if !names_receiver(config, to) {
         return false;
     }
+    let exports = config.export(to);
     let (items, shared) = exports.parts();
     let asked = Asked {
         attrs,
         tags: attrs.tags(),
     };
     asks_receiver_among(shared, items, &asked)
-}
-
-/// Whether a test of the rules at a place of a client's list names the receiver.
-fn names_receiver_at(shared: &[SharedRules], item: &Item) -> bool
-    ensures { result ≡ rules_name_peer (rules_in shared.now item.now) }
-{
-    match item {
-        Item::Own(rule) => rule.tests.name_peer(),
-        Item::Use(place) => match shared.get(*place) {
-            None => false,
-            Some(used) => used.name_peer,
-        },
-    }
-}
-
-/// Whether one of a client's list does.
-fn names_receiver_among(shared: &[SharedRules], items: &[Item]) -> bool
-    ensures { result ≡ list_any (λ item. rules_name_peer (rules_in shared.now item)) items.now }
-{
-    items.iter().any(|item| names_receiver_at(shared, item))
-}
-
-/// Whether a test of a client's export rules names the receiver.
-pub(crate) fn names_receiver(config: &Config, to: usize) -> bool
-    requires { to < length config.now.clients }
-    ensures { result ≡ false → rules_name_peer (policy_of config.now to).export ≡ false }
-{
-    let exports = config.export(to);
-    let (items, shared) = exports.parts();
-    names_receiver_among(shared, items)
 }
