@@ -18,6 +18,7 @@ pub mod Owing
 pub mod Carrying
 pub mod News
 pub mod Pieces
+pub mod Filling
 pub mod Backing
 pub mod Unchanged
 pub mod Draining

@@ -1,6 +1,6 @@
 //! What the turn of one outlet hands over to the next: choices, and what was decided, as far as that serves another client.
 
-ghost use Rattle.std.specs.Prelude.{◌≡◌, [], nat_eq, Some, IfOk, IfSome};
+ghost use Rattle.std.specs.Prelude.{◌≡◌, ◌<◌, [], nat_eq, length, Some, IfOk, IfSome};
 ghost use Rattle.std.specs.List.{IsDistinct};
 ghost use Rattle.std.specs.Map.{keys_of};
 ghost use Rattle.rs_adjin.specs.declared.adj_ins.AdjIns.{AdjIns};
@@ -11,6 +11,7 @@ ghost use Rattle.rs_outlet.specs.Decided.Precedents.{AreDueAlike, IsHandover};
 ghost use Rattle.rs_outlet.specs.Decided.Touching.{is_numbered_in};
 
 use crate::answers::Speech;
+use crate::beside::Beside;
 use crate::changes::Change;
 use crate::choices::Choices;
 use crate::deciding::Sources;
@@ -30,6 +31,15 @@ const FEWEST: usize = 8;
 pub struct Handover {
     pub(crate) choices: Choices,
     pub(crate) precedent: Option<Precedent>,
+    /// What a neighbour lends.
+    pub(crate) beside: Beside,
+}
+
+/// Whether the export list of a client uses `[[rules]]`, or has none: so others have the same.
+fn uses_rules(sources: &Sources<'_>, client: usize) -> bool
+    requires { client < length sources.now.config.now.clients }
+{
+    sources.config.has_same_exports(client, client)
 }
 
 impl Handover {
@@ -40,11 +50,28 @@ impl Handover {
         Handover {
             choices: Choices::new(alloc),
             precedent: None,
+            beside: Beside::none(alloc),
         }
     }
 
-    /// Room for what a client's turn teaches, where it can serve others and is of more prefixes than what is kept. Where memory
-    /// is refused, there is none.
+    /// Whether what is decided for a client at so many prefixes is kept: it can serve others, and does so at more prefixes than
+    /// what is kept. What serves all that use the same rules goes before what serves by marks alone.
+    fn is_worth_keeping(&self, sources: &Sources<'_>, count: usize) -> bool
+        requires server { AreOfOneServer sources.now }
+        requires handover { IsHandover (held_by sources.now) sources.now.ins.now self.now }
+    {
+        let used = uses_rules(sources, sources.client);
+        if count < FEWEST || !used && sources.asked.is_none() {
+            return false;
+        }
+        match &self.precedent {
+            None => true,
+            Some(kept) if uses_rules(sources, kept.client()) == used => count > kept.count(),
+            Some(_) => used,
+        }
+    }
+
+    /// Room for what a client's turn teaches, where that is kept. Where memory is refused, there is none.
     fn room_to_learn(
         &self,
         alloc: Global,
@@ -52,18 +79,10 @@ impl Handover {
         count: usize,
     ) -> Option<Vec<Change>>
         requires server { AreOfOneServer sources.now }
+        requires handover { IsHandover (held_by sources.now) sources.now.ins.now self.now }
         ensures { IfSome result (λ learned. learned.items ≡ []) }
     {
-        let most = match &self.precedent {
-            None => 0,
-            Some(kept) => kept.count(),
-        };
-        if count < FEWEST
-            || count <= most
-            || !sources
-                .config
-                .has_same_exports(sources.client, sources.client)
-        {
+        if !self.is_worth_keeping(sources, count) {
             return None;
         }
         Vec::with_capacity(alloc, count).ok()
@@ -95,9 +114,9 @@ impl Handover {
         true
     }
 
-    /// What is news to a client at these prefixes, if all of it is known and nothing waits.
+    /// What is news to a client at these prefixes, if something is known of it, its rows have nothing there and nothing waits.
     fn shared_plan(
-        &self,
+        &mut self,
         alloc: Global,
         sources: &Sources<'_>,
         speech: Speech,
@@ -106,15 +125,17 @@ impl Handover {
         idle: bool,
     ) -> Result<Option<Plan>, AllocError>
         requires server { AreOfOneServer sources.now }
-        requires handover { IsHandover (held_by sources.now) sources.now.ins.now self.now }
+        requires handover { IsHandover (held_by sources.now) sources.now.ins.now self.old }
         requires once { IsDistinct nat_eq (keys_of touched.now) }
-        ensures { IfOk result (λ found. IfSome found (IsPlanned sources.now.ins.now (due_to (held_by sources.now) sources.now.client speech) rows.now.rows.items (is_numbered_in touched.now) idle)) }
+        ensures planned { IfOk result (λ found. IfSome found (IsPlanned sources.now.ins.now (due_to (held_by sources.now) sources.now.client speech) rows.now.rows.items (is_numbered_in touched.now) idle)) }
+        ensures handover { IsHandover (held_by sources.now) sources.now.ins.now self.new }
     {
-        if !idle {
+        let known = known_to(&self.precedent, sources, speech);
+        if !idle || known.is_empty() {
             return Ok(None);
         }
-        let known = known_to(&self.precedent, sources, speech);
-        match news_to(alloc, sources, rows, touched, known)? {
+        let choices = &mut self.choices;
+        match news_to(alloc, sources, speech, rows, touched, known, choices)? {
             None => Ok(None),
             Some(pieces) => Ok(Some(Plan::Shared(pieces))),
         }
@@ -137,10 +158,12 @@ impl Handover {
         ensures decided { IfOk result (IsPlanned sources.now.ins.now (due_to (held_by sources.now) sources.now.client speech) rows.now.rows.items (is_numbered_in touched.now) idle) }
         ensures handover { IsHandover (held_by sources.now) sources.now.ins.now self.new }
     {
-        if let Some(plan) = self.shared_plan(alloc, sources, speech, rows, touched, idle)? {
+        let mut learned = self.room_to_learn(alloc, sources, touched.len());
+        if learned.is_none()
+            && let Some(plan) = self.shared_plan(alloc, sources, speech, rows, touched, idle)?
+        {
             return Ok(plan);
         }
-        let mut learned = self.room_to_learn(alloc, sources, touched.len());
         let known = known_to(&self.precedent, sources, speech);
         let changes = decide_touched(
             alloc,

@@ -18,12 +18,14 @@
 //!   was told wait again.
 //! - `choosing` says which slots the next UPDATE is about, going along the `chains` of slots with the
 //!   same attributes; `sending` and `fill` begin the next message, which may have been `written` for another client.
-//! - `sharing` lets outlets that are due the same have one copy of their rows.
+//! - `sharing` lets outlets that are due the same have one copy of their rows; what lies `beside` is lent by one to the next, so that
+//!   this one's rows need not be made first.
 //! - `noting` has routes noted by the import lists of a configuration, as a turn wants them.
 //! - `routes` shows the Loc-RIB; `laws` are contracts of functions that do nothing.
 #![tactic(auto)]
 
 mod answers;
+mod beside;
 mod by_number;
 mod changes;
 mod choices;

@@ -1,13 +1,13 @@
 //! News: a route that is due to a client where nothing was due or told.
 
-ghost use Rattle.std.specs.Prelude.{◌≡◌, None, IfOk, IfSome};
+ghost use Rattle.std.specs.Prelude.{◌≡◌, None, map, IfOk, IfSome};
 ghost use Rattle.rs_outlet.specs.Decided.News.{change_of, seen, slot_of};
 
 use crate::changes::Change;
 use crate::waiting::{Due, Told, Wait};
 use rs_attrs::Attrs;
 use rs_octets::Prefix;
-use std::alloc::AllocError;
+use std::alloc::{AllocError, Global};
 use std::sync::Arc;
 
 /// A route that is due where nothing was due or told.
@@ -45,6 +45,17 @@ impl News {
         }
     }
 
+    /// The news that a change is, where something is due. The change is gone.
+    fn out_of(change: Change) -> Option<News>
+        ensures { IfSome result (λ news. change_of news ≡ change) }
+    {
+        Some(News {
+            number: change.number,
+            prefix: change.prefix,
+            attrs: change.due?,
+        })
+    }
+
     /// The change that they are.
     pub(crate) fn change(&self) -> Result<Change, AllocError>
         ensures { IfOk result (λ change. seen change ≡ seen (change_of self.now)) }
@@ -71,4 +82,18 @@ impl News {
             told: Told::Nothing,
         }
     }
+}
+
+/// The news that changes are, each of a route that is due. It is refused where one is of none.
+pub(crate) fn all_news(alloc: Global, changes: Vec<Change>) -> Result<Vec<News>, AllocError>
+    ensures { IfOk result (λ news. map change_of news.items ≡ changes.items) }
+{
+    let mut news = Vec::with_capacity(alloc, changes.len())?;
+    for change in changes {
+        let Some(one) = News::out_of(change) else {
+            return Err(AllocError);
+        };
+        news.push(one)?;
+    }
+    Ok(news)
 }

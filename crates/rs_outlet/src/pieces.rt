@@ -13,8 +13,9 @@ ghost use Rattle.rs_outlet.specs.Inside.{AreBelow, numbers_of};
 ghost use Rattle.rs_outlet.specs.Decided.News.{AreFree, change_of, seen, slot_of, written};
 ghost use Rattle.rs_outlet.specs.Decided.Plans.{HasRows, IsOutside, changes_in, news_in, news_of};
 
+use crate::beside::Beside;
 use crate::changes::Change;
-use crate::filled::{Filled, Whole};
+use crate::filled::{Filled, Whole, place_filled};
 use crate::news::News;
 use crate::table::Rows;
 use crate::waiting::{Sorting, Wait, Waits};
@@ -38,6 +39,33 @@ impl Piece {
             Piece::Block(whole) => whole.filled.news.len(),
         }
     }
+}
+
+/// Lists news, each as one piece.
+fn list_each(news: Vec<News>, pieces: &mut Vec<Piece>) -> Result<(), AllocError>
+    ensures { OnOk result (news_in pieces.new.items ≡ news_in pieces.old.items ++ news.items) }
+{
+    for one in news {
+        pieces.push(Piece::One(one))?;
+    }
+    Ok(())
+}
+
+/// Lists news: as one piece where they fill a block, which may be one that lies beside, else each as one.
+pub(crate) fn list_news(
+    alloc: Global,
+    news: Vec<News>,
+    beside: &Beside,
+    pieces: &mut Vec<Piece>,
+) -> Result<(), AllocError>
+    ensures { OnOk result (news_in pieces.new.items ≡ news_in pieces.old.items ++ news.items) }
+{
+    let Some(place) = place_filled(&news) else {
+        return list_each(news, pieces);
+    };
+    let filled = Filled::with(alloc, place, news, beside.at(place))?;
+    pieces.push(Piece::Block(Whole::of(alloc, filled)?))?;
+    Ok(())
 }
 
 /// How many news pieces have; none where they are too many to be counted.

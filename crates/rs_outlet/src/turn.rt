@@ -1,6 +1,6 @@
 //! A turn: what is touched is decided anew, and what the client was not told so waits.
 
-ghost use Rattle.std.specs.Prelude.{◌≡◌, Bool, List, Option, None, Some, true, false, nat_eq, nat_lt, count_by, map, option_map, length, if◌then◌else◌, IsTrue, IfOk, IfSome, OnOk, OnErr, All};
+ghost use Rattle.std.specs.Prelude.{◌≡◌, ◌<◌, ◌≤◌, ◌++◌, ℕ, Bool, List, Option, None, Some, true, false, nat_eq, nat_lt, count_by, map, option_map, length, if◌then◌else◌, IsTrue, IfOk, IfSome, OnOk, OnErr, All};
 ghost use Rattle.std.specs.Arc.{arc_value};
 ghost use Rattle.std.specs.List.{IsDistinct};
 ghost use Rattle.std.specs.Map.{keys_of};
@@ -13,13 +13,14 @@ ghost use Rattle.rs_adjin.specs.AdjIns.{number_of, prefix_of, ListsHolders};
 ghost use Rattle.rs_outlet.specs.Views.{AreNumbered, HaveNumbers, IsCount, IsNumberOf, IsOneOf, Prefixes, WaitsAreExact, is_touched, is_whole};
 ghost use Rattle.rs_outlet.specs.Decided.Turns.{IsCurrent};
 ghost use Rattle.rs_outlet.specs.Decided.Due.{any_holds, due_to};
-ghost use Rattle.rs_outlet.specs.Decided.Counted.{is_counted, is_left, is_standing};
+ghost use Rattle.rs_outlet.specs.Decided.Counted.{is_counted, is_counted_below, is_left, is_standing};
 ghost use Rattle.rs_outlet.specs.Decided.HeldBy.{held_by, AreOfOneServer};
 ghost use Rattle.rs_outlet.specs.Inside.{AreDecided, AreFresh, IsDecidedAt, IsOwn, shown};
 ghost use Rattle.rs_policy.specs.Noted.{note_of_import};
 ghost use Rattle.rs_rows.specs.Places.{lent_row};
 ghost use Rattle.rs_rows.specs.Rows.{Row, row_at};
 ghost use Rattle.rs_outlet.specs.Decided.Touching.{is_number_touched, is_numbered_in, touched_of};
+ghost use Rattle.rs_outlet.specs.declared.changes.Change.{Change};
 ghost use Rattle.rs_outlet.specs.Decided.Choices.{AreChoices};
 ghost use Rattle.rs_outlet.specs.Decided.Memo.{IsMemo};
 ghost use Rattle.rs_outlet.specs.Decided.Plans.{IsPlanned};
@@ -27,19 +28,22 @@ ghost use Rattle.rs_outlet.specs.Decided.Precedents.{AreDueAlike, AreKnown, IsHa
 ghost use Rattle.rs_outlet.specs.Decided.Passing.{attributes_passed};
 
 use crate::answers::{Last, Speech, Turned};
+use crate::beside::Beside;
 use crate::changes::Change;
 use crate::choices::Choices;
 use crate::chosen::is_absent;
 use crate::deciding::{Draft, Passed, Sources, decide};
 use crate::handover::Handover;
 use crate::known::{Known, learn};
+use crate::news::all_news;
 use crate::outlet::Outlet;
+use crate::pieces::list_news;
 use crate::plan::Plan;
 use crate::table::Rows;
 use crate::touched::{TOUCHED_MAX, Touched};
 use rs_adjin::Holders;
 use rs_octets::Prefix;
-use rs_rows::Lent;
+use rs_rows::{Lent, ROWS};
 use std::alloc::{AllocError, Global};
 
 /// The changes of a turn, how many prefixes were decided, and whether all were.
@@ -138,9 +142,26 @@ fn list_known(rows: &Rows, known: &Change, changes: &mut Vec<Change>) -> Result<
     )
 }
 
-/// Whether a client holds the prefix of a number: where none does, nothing has to be known of it.
-fn is_held(sources: &Sources<'_>, number: u32) -> bool {
-    !sources.ins.at_number(number).is_empty()
+/// Whether no client holds the prefix of a number: so nothing is due there.
+fn is_unheld(sources: &Sources<'_>, number: u32) -> bool
+    ensures { IsTrue result → (speech : Speech) (p : Prefix) → number_of sources.now.ins.now p ≡ Some number → due_to (held_by sources.now) sources.now.client speech p ≡ None }
+{
+    sources.ins.at_number(number).is_empty()
+}
+
+/// Lists the prefix of a number at which nothing is due, where its row has a route still.
+fn list_gone(
+    sources: &Sources<'_>,
+    rows: &Rows,
+    number: u32,
+    changes: &mut Vec<Change>,
+) -> Result<(), AllocError>
+    ensures { (due_at : Prefix → Option (List Attribute)) → ((p : Prefix) → number_of sources.now.ins.now p ≡ Some number → due_at p ≡ None) → OnOk result (IsDecidedAt sources.now.ins.now due_at rows.now.rows.items number changes.old.items changes.new.items) }
+{
+    let Some(prefix) = sources.ins.prefix(number) else {
+        return Ok(());
+    };
+    list_change(rows.get(number).as_ref(), number, prefix, None, changes)
 }
 
 /// Decides the prefix of a number, as it is known, or by the tables.
@@ -154,16 +175,18 @@ fn decide_next<'a>(
     changes: &mut Vec<Change>,
 ) -> Result<(), AllocError>
     requires server { AreOfOneServer sources.now }
-    requires known { AreKnown (held_by sources.now) sources.now.ins.now sources.now.client speech known.old.changes.now known.old.wholes.now }
+    requires known { AreKnown (held_by sources.now) sources.now.ins.now sources.now.client speech known.old }
     requires choices { AreChoices (held_by sources.now) sources.now.ins.now draft.old.choices.kept.items }
     requires memo { IsMemo sources.now.config.now sources.now.client draft.old.memo }
     ensures changes { OnOk result (IsDecidedAt sources.now.ins.now (due_to (held_by sources.now) sources.now.client speech) rows.now.rows.items number changes.old.items changes.new.items) }
-    ensures known { AreKnown (held_by sources.now) sources.now.ins.now sources.now.client speech known.new.changes.now known.new.wholes.now }
+    ensures known { AreKnown (held_by sources.now) sources.now.ins.now sources.now.client speech known.new }
     ensures choices { OnOk result (AreChoices (held_by sources.now) sources.now.ins.now draft.new.choices.kept.items) }
     ensures memo { OnOk result (IsMemo sources.now.config.now sources.now.client draft.new.memo) }
 {
-    if is_held(sources, number)
-        && let Some(change) = known.find(number)
+    if is_unheld(sources, number) {
+        return list_gone(sources, rows, number, changes);
+    }
+    if let Some(change) = known.find(sources, number)
         && is_absent(sources, number)
     {
         return list_known(rows, change, changes);
@@ -186,7 +209,7 @@ pub(crate) fn decide_touched(
     choices: &mut Choices,
 ) -> Result<Vec<Change>, AllocError>
     requires server { AreOfOneServer sources.now }
-    requires known { AreKnown (held_by sources.now) sources.now.ins.now sources.now.client speech known.changes.now known.wholes.now }
+    requires known { AreKnown (held_by sources.now) sources.now.ins.now sources.now.client speech known }
     requires learned { IfSome learned.old (λ learned. AreDueAlike (held_by sources.now) sources.now.ins.now sources.now.client speech learned.items) }
     requires choices { AreChoices (held_by sources.now) sources.now.ins.now choices.old.kept.items }
     requires once { IsDistinct nat_eq (keys_of touched.now) }
@@ -311,38 +334,148 @@ fn decide_number<'a>(
     Ok(true)
 }
 
+/// Decides the prefixes of the numbers from one on to before another, in their order, and counts those that a client holds or
+/// that stand in the Loc-RIB.
+fn decide_numbers<'a>(
+    sources: &Sources<'a>,
+    speech: Speech,
+    rows: &Rows,
+    from: u32,
+    end: u32,
+    draft: &mut Draft<'a>,
+    changes: &mut Vec<Change>,
+    count: &mut usize,
+) -> Result<(), AllocError>
+    requires server { AreOfOneServer sources.now }
+    requires order { from ≤ end }
+    requires choices { AreChoices (held_by sources.now) sources.now.ins.now draft.old.choices.kept.items }
+    requires memo { IsMemo sources.now.config.now sources.now.client draft.old.memo }
+    requires most { count.old ≤ from }
+    requires count { IsNumberOf (is_counted_below sources.now.ins.now rows.now.rows.items (any_holds (held_by sources.now)) from) count.old }
+    ensures changes { (front : List Change) → AreDecided sources.now.ins.now (due_to (held_by sources.now) sources.now.client speech) rows.now.rows.items (λ m. nat_lt m from) (front ++ changes.old.items) → OnOk result (AreDecided sources.now.ins.now (due_to (held_by sources.now) sources.now.client speech) rows.now.rows.items (λ m. nat_lt m end) (front ++ changes.new.items)) }
+    ensures choices { OnOk result (AreChoices (held_by sources.now) sources.now.ins.now draft.new.choices.kept.items) }
+    ensures memo { OnOk result (IsMemo sources.now.config.now sources.now.client draft.new.memo) }
+    ensures most { OnOk result (count.new ≤ end) }
+    ensures count { OnOk result (IsNumberOf (is_counted_below sources.now.ins.now rows.now.rows.items (any_holds (held_by sources.now)) end) count.new) }
+{
+    for number in from..end {
+        let decided = decide_number(sources, speech, rows, number, draft, changes)?;
+        *count += usize::from(decided);
+    }
+    Ok(())
+}
+
+/// Decides the prefixes of the numbers before one for a client that has rows, or to which something waits.
+fn decide_own<'a>(
+    alloc: Global,
+    sources: &Sources<'a>,
+    speech: Speech,
+    rows: &Rows,
+    numbers: u32,
+    draft: &mut Draft<'a>,
+) -> Result<Decided, AllocError>
+    requires server { AreOfOneServer sources.now }
+    requires choices { AreChoices (held_by sources.now) sources.now.ins.now draft.old.choices.kept.items }
+    requires memo { IsMemo sources.now.config.now sources.now.client draft.old.memo }
+    ensures choices { OnOk result (AreChoices (held_by sources.now) sources.now.ins.now draft.new.choices.kept.items) }
+    ensures plan { (idle : Bool) → ((p : Prefix) (n : ℕ) → number_of sources.now.ins.now p ≡ Some n → n < numbers) → IfOk result (λ decided. IsPlanned sources.now.ins.now (due_to (held_by sources.now) sources.now.client speech) rows.now.rows.items (λ number. true) idle decided.plan) }
+    ensures count { ((p : Prefix) (n : ℕ) → number_of sources.now.ins.now p ≡ Some n → n < numbers) → IfOk result (λ decided. IsNumberOf (is_counted sources.now.ins.now rows.now.rows.items (any_holds (held_by sources.now))) decided.count) }
+    ensures whole { IfOk result (λ decided. decided.whole ≡ true) }
+{
+    let mut changes = Vec::new(alloc);
+    let mut count = 0usize;
+    decide_numbers(
+        sources,
+        speech,
+        rows,
+        0,
+        numbers,
+        draft,
+        &mut changes,
+        &mut count,
+    )?;
+    Ok(Decided {
+        plan: Plan::Own(changes),
+        count,
+        whole: true,
+    })
+}
+
+/// Decides the prefixes of the numbers before one for a client that has no route yet, and to which nothing waits: all that is
+/// due is news, which is decided block by block. What fills a block is put into one that lies beside, where that has the same.
+fn decide_news<'a>(
+    alloc: Global,
+    sources: &Sources<'a>,
+    speech: Speech,
+    rows: &Rows,
+    numbers: u32,
+    draft: &mut Draft<'a>,
+    beside: &Beside,
+) -> Result<Decided, AllocError>
+    requires server { AreOfOneServer sources.now }
+    requires choices { AreChoices (held_by sources.now) sources.now.ins.now draft.old.choices.kept.items }
+    requires memo { IsMemo sources.now.config.now sources.now.client draft.old.memo }
+    requires free { rows.now.used ≡ 0 }
+    ensures choices { OnOk result (AreChoices (held_by sources.now) sources.now.ins.now draft.new.choices.kept.items) }
+    ensures plan { ((p : Prefix) (n : ℕ) → number_of sources.now.ins.now p ≡ Some n → n < numbers) → IfOk result (λ decided. IsPlanned sources.now.ins.now (due_to (held_by sources.now) sources.now.client speech) rows.now.rows.items (λ number. true) true decided.plan) }
+    ensures count { ((p : Prefix) (n : ℕ) → number_of sources.now.ins.now p ≡ Some n → n < numbers) → IfOk result (λ decided. IsNumberOf (is_counted sources.now.ins.now rows.now.rows.items (any_holds (held_by sources.now))) decided.count) }
+    ensures whole { IfOk result (λ decided. decided.whole ≡ true) }
+{
+    let mut pieces = Vec::new(alloc);
+    let mut count = 0usize;
+    let mut from = 0u32;
+    while from < numbers {
+        let end = from + (numbers - from).min(ROWS as u32);
+        let mut changes = Vec::with_capacity(alloc, ROWS)?;
+        decide_numbers(
+            sources,
+            speech,
+            rows,
+            from,
+            end,
+            draft,
+            &mut changes,
+            &mut count,
+        )?;
+        list_news(alloc, all_news(alloc, changes)?, beside, &mut pieces)?;
+        from = end;
+    }
+    Ok(Decided {
+        plan: Plan::Shared(pieces),
+        count,
+        whole: true,
+    })
+}
+
 /// Decides each prefix that a client holds or that stands in the Loc-RIB, in the order of their
-/// numbers. It is refused where there are more numbers than 32 bits count.
+/// numbers. It is refused where there are more numbers than 32 bits count. Where the client is `idle`, nothing waits.
 fn decide_all(
     alloc: Global,
     sources: &Sources<'_>,
     speech: Speech,
     rows: &Rows,
     choices: &mut Choices,
+    beside: &Beside,
+    idle: bool,
 ) -> Result<Decided, AllocError>
     requires server { AreOfOneServer sources.now }
     requires choices { AreChoices (held_by sources.now) sources.now.ins.now choices.old.kept.items }
     ensures choices { AreChoices (held_by sources.now) sources.now.ins.now choices.new.kept.items }
-    ensures plan { (idle : Bool) → IfOk result (λ decided. IsPlanned sources.now.ins.now (due_to (held_by sources.now) sources.now.client speech) rows.now.rows.items (λ number. true) idle decided.plan) }
+    ensures plan { IfOk result (λ decided. IsPlanned sources.now.ins.now (due_to (held_by sources.now) sources.now.client speech) rows.now.rows.items (λ number. true) idle decided.plan) }
     ensures count { IfOk result (λ decided. IsNumberOf (is_counted sources.now.ins.now rows.now.rows.items (any_holds (held_by sources.now))) decided.count) }
     ensures whole { IfOk result (λ decided. decided.whole ≡ true) }
 {
-    let mut draft = Draft::from_choices(alloc, choices);
-    let mut changes = Vec::new(alloc);
-    let mut count = 0usize;
     let Ok(numbers) = u32::try_from(sources.ins.numbers()) else {
         return Err(AllocError);
     };
-    for number in 0..numbers {
-        let decided = decide_number(sources, speech, rows, number, &mut draft, &mut changes)?;
-        count += usize::from(decided);
-    }
+    let mut draft = Draft::from_choices(alloc, choices);
+    let decided = if idle && rows.used() == 0 {
+        decide_news(alloc, sources, speech, rows, numbers, &mut draft, beside)?
+    } else {
+        decide_own(alloc, sources, speech, rows, numbers, &mut draft)?
+    };
     *choices = draft.into_choices();
-    Ok(Decided {
-        plan: Plan::Own(changes),
-        count,
-        whole: true,
-    })
+    Ok(decided)
 }
 
 /// Decides what is touched, from the tables and the rules: of a whole turn what may be stale. Where the client is `idle`,
@@ -365,7 +498,15 @@ fn decide_all_touched(
     ensures all { HaveNumbers touched.now.prefixes.items sources.now.ins.now → AreFresh sources.now.ins.now (due_to (held_by sources.now) sources.now.client speech) rows.now.rows.items (is_number_touched touched.now.all touched.now.prefixes.items) → IfOk result (λ decided. decided.whole ≡ true → IsNumberOf (is_counted sources.now.ins.now rows.now.rows.items (any_holds (held_by sources.now))) decided.count) }
 {
     match touched.list(alloc)? {
-        None => decide_all(alloc, sources, speech, rows, &mut handover.choices),
+        None => decide_all(
+            alloc,
+            sources,
+            speech,
+            rows,
+            &mut handover.choices,
+            &handover.beside,
+            idle,
+        ),
         Some(list) => decide_stale(alloc, sources, speech, rows, &list, handover, idle),
     }
 }

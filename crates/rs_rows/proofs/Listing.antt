@@ -41,7 +41,7 @@ behind_get [] ys m n is = ap (slice_get ys) (let e : n ≡ m = omega (arith, is)
 behind_get (x ∷ xs) ys m zero is = absurd (omega (arith, is))
 behind_get (x ∷ xs) ys m (suc n) is = behind_get xs ys m n (omega (arith, is))
 
-row_within : (ps : List Part) (k j n : ℕ) (p : Part) → n ≡ k * 16 + j → slice_get ps k ≡ Some p → j < 16 → row_at (rows_of ps) n ≡ row_at (rows_in p) j
+pub row_within : (ps : List Part) (k j n : ℕ) (p : Part) → n ≡ k * 16 + j → slice_get ps k ≡ Some p → j < 16 → row_at (rows_of ps) n ≡ row_at (rows_in p) j
 row_within [] k j n p at is below = absurd (let f : ◌≡◌ {A = Option Part} None (Some p) = is in cc)
 row_within (o ∷ ps) zero j n p at is below =
     let here : n ≡ j = omega (arith, at) in

@@ -57,7 +57,7 @@ impl Block {
 
     /// The row at an index, where it has a route.
     #[inline(always)]
-    pub(crate) fn at(&self, index: usize) -> Option<Lent<'_>>
+    pub fn at(&self, index: usize) -> Option<Lent<'_>>
         ensures { option_map lent_row result ≡ row_at self.now.rows.items index }
     {
         match self.place(index) {

@@ -1,6 +1,6 @@
 //! Rows by number, in blocks.
 
-ghost use Rattle.std.specs.Prelude.{◌≡◌, ◌≢◌, ◌<◌, ◌≤◌, ◌+◌, ◌*◌, ◌/◌, ℕ, [], None, Some, length, nat_eq, option_map, slice_set, OnOk};
+ghost use Rattle.std.specs.Prelude.{◌≡◌, ◌≢◌, ◌<◌, ◌≤◌, ◌+◌, ◌*◌, ◌/◌, ℕ, [], None, Some, length, nat_eq, option_map, slice_set, IfSome, OnOk};
 ghost use Rattle.std.specs.Arc.{arc_value};
 ghost use Rattle.rs_rows.specs.Cells.{taken_of};
 ghost use Rattle.rs_rows.specs.Rows.{IsPrepared, row_at, shown, written_from};
@@ -96,6 +96,18 @@ impl Blocks {
             None => None,
             Some(part) => part.attrs(number % ROWS),
         }
+    }
+
+    /// How many blocks there are.
+    pub fn places(&self) -> usize {
+        self.parts.len()
+    }
+
+    /// The block at a place, if others may have it too.
+    pub fn shared(&self, place: usize) -> Option<&Arc<Block>>
+        ensures { IfSome result (λ block. (i : ℕ) → i < 16 → row_at (arc_value block.now).rows.items i ≡ row_at self.now.items (place * 16 + i)) }
+    {
+        self.parts.get(place)?.shared()
     }
 
     /// There is a row for each of the first numbers. It is refused where 32 bits don't count them.

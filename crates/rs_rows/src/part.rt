@@ -148,6 +148,16 @@ impl Part {
         }
     }
 
+    /// The block, if others may have it too.
+    pub(crate) fn shared(&self) -> Option<&Arc<Block>>
+        ensures { IfSome result (λ block. (arc_value block.now).rows.items ≡ rows_in self.now) }
+    {
+        match self {
+            Part::Shared(block) => Some(block),
+            _ => None,
+        }
+    }
+
     /// Whether the rows can be written.
     #[inline(always)]
     pub(crate) fn can_be_written(&self) -> bool

@@ -5,7 +5,7 @@
 //!
 //! - `turning` has the call, `turn_all`: shares of neighbouring outlets, each turned by a thread of
 //!   its own where one can be started.
-//! - `sharing` has neighbouring outlets share rows that their turns wrote.
+//! - `sharing` has neighbouring outlets share rows that their turns wrote, and lend blocks of rows to one that is decided whole.
 //! - `gate` is what a worker passes before it turns its share: nothing, but in a test.
 //!
 //! The tests stand in `rs_tests`, in `src/workers.rt`.

@@ -1,8 +1,12 @@
 //! Outlets that were turned share rows with their neighbours, where both have the same.
 
 ghost use Rattle.std.specs.Prelude.{◌≡◌, ◌<◌, length};
+ghost use Rattle.rs_adjin.specs.declared.adj_ins.AdjIns.{AdjIns};
+ghost use Rattle.rs_outlet.specs.Decided.Due.{Held};
+ghost use Rattle.rs_outlet.specs.Decided.Precedents.{IsHandover};
 
-use rs_outlet::Outlet;
+use rs_outlet::{Handover, Outlet};
+use std::alloc::Global;
 
 /// With how many outlets on each side one shares. A neighbour that announced a route itself isn't due it, and has other
 /// rows there; the next one may have the same.
@@ -45,4 +49,37 @@ pub(crate) fn share_at(outlets: &mut [Outlet], k: usize)
     adopt_before(outlets, k);
     adopt_behind(outlets, k);
     outlets[k].settle();
+}
+
+/// Whether an outlet has routes, most of which are due still: another may be due the same.
+fn can_lend(outlet: &Outlet) -> bool {
+    outlet.count() > 0 && !outlet.is_all_touched()
+}
+
+/// The place of the outlet nearest to one, before or behind it, that can lend its blocks.
+fn lender_of(outlets: &[Outlet], k: usize) -> Option<usize> {
+    for distance in 1..outlets.len() {
+        for place in [k.saturating_sub(distance), k.saturating_add(distance)] {
+            if place < outlets.len() && can_lend(&outlets[place]) {
+                return Some(place);
+            }
+        }
+    }
+    None
+}
+
+/// Where all is decided anew for the outlet at a place, the nearest one that can lends its blocks; else none are lent.
+pub(crate) fn lend_to(alloc: Global, outlets: &[Outlet], k: usize, handover: &mut Handover)
+    requires { k < length outlets.now }
+    ensures { (t : Held) (ins : AdjIns) → IsHandover t ins handover.old → IsHandover t ins handover.new }
+{
+    handover.take_back(alloc);
+    if !outlets[k].is_all_touched() {
+        return;
+    }
+    if let Some(place) = lender_of(outlets, k)
+        && let Some(lender) = outlets.get(place)
+    {
+        lender.lend_blocks(handover);
+    }
 }

@@ -8,7 +8,7 @@ ghost use Rattle.rs_outlet.specs.Decided.HeldBy.{tables_of};
 ghost use Rattle.rs_workers.specs.Turned.{ArePlaced, AllTurnedAlone, TurnedAlone};
 
 use crate::gate::Gate;
-use crate::sharing::share_at;
+use crate::sharing::{lend_to, share_at};
 use rs_adjin::AdjIns;
 use rs_outlet::{Handover, Outlet};
 use rs_policy::Config;
@@ -47,7 +47,7 @@ pub fn turn_all<R: Threads + Wait + Sync, G: Gate>(
 }
 
 /// Turns the outlets of one share, one after the other: choices that were made for one serve the next,
-/// and so do rows.
+/// and so do rows. Where all is decided anew for one, a neighbour lends it blocks of rows.
 pub(crate) fn turn_share<G: Gate>(
     alloc: Global,
     gate: &G,
@@ -64,6 +64,7 @@ pub(crate) fn turn_share<G: Gate>(
     gate.enter(share);
     let mut handover = Handover::new(alloc);
     for k in 0..outlets.len() {
+        lend_to(alloc, outlets, k, &mut handover);
         turn_one(&mut outlets[k], tables, config, &mut handover);
         share_at(outlets, k);
     }

@@ -7,6 +7,7 @@ use Rattle.std.specs.Arc.{arc_value}
 use Rattle.std.specs.Prelude.{option_map}
 use Rattle.std.proofs.lemmas.Bool.Decides.{nat_tests}
 use Rattle.std.proofs.lemmas.Bool.{or_parts, or_right, eqb-true}
+use Rattle.std.proofs.lemmas.List.{append_assoc}
 use Rattle.rs_octets.specs.Prefixes.{Prefix}
 use Rattle.rs_attrs.specs.Meaning.{Attribute}
 use Rattle.rs_adjin.specs.declared.adj_ins.AdjIns.{AdjIns}
@@ -146,3 +147,8 @@ module _ (ins : AdjIns) (due_at : Prefix → Option (List Attribute)) (rows : Li
   -- the prefix of a number is one
   pub decided_there : (n : ℕ) (p : Prefix) (cs : List Change) → number_of ins p ≡ Some n → ((q : Prefix) → number_of ins q ≡ Some n → q ≡ p) → attributes_at rows n ≡ due_at p → IsDecidedAt ins due_at rows n cs cs
   decided_there n p cs at once is = inl (refl, λ q there. is ∙ ap due_at (sym (once q there)))
+
+  -- behind other changes
+  pub decided_behind : (front old new : List Change) (n : ℕ) → IsDecidedAt ins due_at rows n old new → IsDecidedAt ins due_at rows n (front ++ old) (front ++ new)
+  decided_behind front old new n (inl is) = inl (ap (λ cs. front ++ cs) is.0, is.1)
+  decided_behind front old new n (inr is) = inr (is.0, is.1, ap (λ cs. front ++ cs) is.2 ∙ sym (append_assoc front old (is.0 ∷ [])))

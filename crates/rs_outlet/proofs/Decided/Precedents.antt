@@ -1,7 +1,7 @@
 -- What was decided for a client that holds no route at a prefix is decided for each that has the same export rules and holds none there
--- either, where these don't ask who it is.
+-- either, where these don't ask who it is; and for one with others, where the rules of both pass all routes there plainly.
 use Rattle.std.proofs.Common.{◌≡◌, ◌<◌, ◌+◌, ◌≤◌, ◌∙◌, ℕ, zero, suc, Bool, true, false, ◌||◌, inl, inr, nat_eq, get_or, List, [], ◌∷◌, ◌++◌, Option, Some, None, length, map, take, option_map, refl, sym, ap, subst, arith}
-use Rattle.std.specs.Prelude.{drop, option_and_then, slice_get, unwrap_or}
+use Rattle.std.specs.Prelude.{Err, IfOk, IfSome, Ok, Result, drop, option_and_then, slice_get, unwrap_or}
 use Rattle.std.specs.Map.{keys_of}
 use Rattle.std.specs.Arc.{arc_value}
 use Rattle.std.specs.List.{All, AllByRecursion, IsDistinct, list_any}
@@ -14,7 +14,8 @@ use Rattle.rs_octets.specs.Prefixes.{Prefix}
 use Rattle.rs_attrs.specs.Meaning.{Attribute}
 use Rattle.rs_adjin.specs.declared.adj_ins.AdjIns.{AdjIns}
 use Rattle.rs_adjin.specs.AdjIns.{number_of}
-use Rattle.rs_policy.specs.Alike.{ReceiversAreAlike}
+use Rattle.rs_policy.specs.Alike.{PassesPlainly, ReceiversAreAlike}
+use Rattle.rs_policy.specs.Noted.{note_of_import}
 use Rattle.rs_policy.specs.Verdicts.{verdict}
 use Rattle.rs_decision.specs.Choice.{best_of}
 use Rattle.rs_decision.specs.declared.rank.Rank.{Rank}
@@ -24,10 +25,12 @@ use Rattle.rs_outlet.specs.declared.changes.Change.{Change}
 use Rattle.rs_outlet.specs.Inside.{AreDecided, IsChangeAt, IsDecidedAt, IsOwn, attributes_at, numbers_of, shown}
 use Rattle.rs_outlet.specs.Decided.Due.{Held, due_to, holders_at, if_fits, passed_on, ranks_among, route_from}
 use Rattle.rs_outlet.specs.declared.filled.Whole.{Whole}
+use Rattle.rs_outlet.specs.declared.known.Asked.{Asked}
+use Rattle.rs_outlet.specs.declared.known.Known.{Known}
 use Rattle.rs_outlet.specs.declared.news.News.{News}
 use Rattle.rs_outlet.specs.Decided.News.{AreFree, change_of, seen}
 use Rattle.rs_outlet.specs.Decided.Plans.{news_within}
-use Rattle.rs_outlet.specs.Decided.Precedents.{AreAlikeForAll, AreDecidedAt, AreDueAlike, AreKnown, AreUnheld, HaveSameExports, IsDueAlike}
+use Rattle.rs_outlet.specs.Decided.Precedents.{AreAlikeForAll, AreDecidedAt, AreDueAlike, AreDueHere, AreKnown, AreListed, AreNewsAt, AreUnheld, HaveSameExports, IsDueAlike, IsDueHere, IsPlainForBoth, ServesAt}
 use Rattle.rs_outlet.proofs.Decided.Decisions.{none_decided, one_more_decided}
 use Rattle.rs_outlet.proofs.Decided.Numbering.{number_once}
 use Rattle.rs_outlet.proofs.Decided.Shared.{IsJudgedAlike, best_has, ranks_same}
@@ -98,6 +101,10 @@ due_alike_too : (t : Held) (ins : AdjIns) (c d : ℕ) (speech : Speech) (it : Se
 due_alike_too t ins c d speech it alike h = record {
   placed = h.placed;
   due = λ e too none. h.due e (alike ∙ too) none;
+  one = h.one;
+  same = sym alike ∙ h.same;
+  unheld = h.unheld;
+  alike = h.alike;
 }
 
 are_due_too : (t : Held) (ins : AdjIns) (c d : ℕ) (speech : Speech) (cs : List Change) → HaveSameExports t c d → AreDueAlike t ins c speech cs → AreDueAlike t ins d speech cs
@@ -109,12 +116,81 @@ wholes_too : (t : Held) (ins : AdjIns) (c d : ℕ) (speech : Speech) (ws : List 
 wholes_too t ins c d speech [] alike h = tt
 wholes_too t ins c d speech (w ∷ ws) alike h = (are_due_too t ins c d speech (map change_of (news_within w)) alike h.0, wholes_too t ins c d speech ws alike h.1)
 
--- what is known for one is known for another that has the same export rules
-pub known_too : (t : Held) (ins : AdjIns) (c d : ℕ) (speech : Speech) (cs : List Change) (ws : List Whole) → HaveSameExports t c d → AreKnown t ins c speech cs ws → AreKnown t ins d speech cs ws
-known_too t ins c d speech cs ws alike h = record {
+-- what is listed for one is listed for another that has the same export rules
+pub listed_too : (t : Held) (ins : AdjIns) (c d : ℕ) (speech : Speech) (cs : List Change) (ws : List Whole) → HaveSameExports t c d → AreListed t ins c speech cs ws → AreListed t ins d speech cs ws
+listed_too t ins c d speech cs ws alike h = record {
   changes = are_due_too t ins c d speech cs alike h.changes;
   wholes = wholes_too t ins c d speech ws alike h.wholes;
 }
+
+pub listed_is : (t : Held) (ins : AdjIns) (c : ℕ) (speech more : Speech) (cs ds : List Change) (ws xs : List Whole) → more ≡ speech → ds ≡ cs → xs ≡ ws → AreListed t ins c speech cs ws → AreListed t ins c more ds xs
+listed_is t ins c speech more cs ds ws xs spoken changes wholes h = subst (λ s. AreListed t ins c s ds xs) (sym spoken) (subst (λ cs. AreListed t ins c speech cs xs) (sym changes) (subst (AreListed t ins c speech cs) (sym wholes) h))
+
+-- ---- what is due here
+
+-- by the same export rules
+pub same_here : (t : Held) (ins : AdjIns) (c d : ℕ) (speech : Speech) (it : Seen) → HaveSameExports t c d → IsDueAlike t ins c speech it → IsDueHere t ins d speech it
+same_here t ins c d speech it alike h = record { placed = h.placed; due = h.due d alike }
+
+pub all_same_here : (t : Held) (ins : AdjIns) (c d : ℕ) (speech : Speech) (cs : List Change) → HaveSameExports t c d → AreDueAlike t ins c speech cs → AreDueHere t ins d speech cs
+all_same_here t ins c d speech [] alike h = tt
+all_same_here t ins c d speech (x ∷ cs) alike h = (same_here t ins c d speech (seen x) alike h.0, all_same_here t ins c d speech cs alike h.1)
+
+-- the note of a route is the one that its sender's import list gives it
+abbrev IsNoted : Held → Prefix → (ℕ × List Attribute) × ℕ → Type 0
+IsNoted t p h = h.1 ≡ note_of_import t.settings h.0.0 p h.0.1
+
+-- routes that go plainly to both are judged alike on the way to the one and to the other, and to each that has the rules of one
+judged_plainly : (t : Held) (c d one : ℕ) (p : Prefix) (asked : Asked) (hs : List ((ℕ × List Attribute) × ℕ)) → PassesPlainly t.settings c asked.first → PassesPlainly t.settings d asked.next → HaveSameExports t c one
+    → AllByRecursion (λ h. h.0 < length t.settings.clients) (map (λ h. h.0) hs) → AllByRecursion (λ h. ReceiversAreAlike t.settings one h.1) (map (λ h. h.0) hs)
+    → AllByRecursion (IsNoted t p) hs → AllByRecursion (IsPlainForBoth asked) hs → AllByRecursion (IsJudgedAlike t one d p) (map (λ h. h.0) hs)
+judged_plainly t c d one p asked [] first next same known alike noted plain = tt
+judged_plainly t c d one p asked (h ∷ hs) first next same known alike noted plain =
+    let note : note_of_import t.settings h.0.0 p h.0.1 ≡ 1 = sym noted.0 ∙ plain.0.0 in (
+      alike.0 h.0.0 c p known.0 (sym same) ∙ first h.0.0 p h.0.1 known.0 note plain.0.1 ∙ sym (next h.0.0 p h.0.1 known.0 note plain.0.2),
+      judged_plainly t c d one p asked hs first next same known.1 alike.1 noted.1 plain.1,
+    )
+
+-- by other export rules, where all routes go plainly to both
+pub plain_here : (t : Held) (ins : AdjIns) (c d : ℕ) (speech : Speech) (it : Seen) (asked : Asked) (hs : List ((ℕ × List Attribute) × ℕ)) → map (λ h. h.0) hs ≡ holders_at t it.0.1
+    → All (λ h. h.0 < length t.settings.clients) (map (λ h. h.0) hs) → All (λ h. t.held h.0 it.0.1 ≡ Some h.1) (map (λ h. h.0) hs) → All (IsNoted t it.0.1) hs → All (IsPlainForBoth asked) hs
+    → PassesPlainly t.settings c asked.first → PassesPlainly t.settings d asked.next → IsDueAlike t ins c speech it → IsDueHere t ins d speech it
+plain_here t ins c d speech it asked hs all known each noted plain first next h =
+    let gs = map (λ (h : (ℕ × List Attribute) × ℕ). h.0) hs in
+    let judged = judged_plainly t c d h.one it.0.1 asked hs first next h.same
+    (recursion_from_All (λ (h : ℕ × List Attribute). h.0 < length t.settings.clients) gs known)
+    (recursion_from_All (λ (g : ℕ × List Attribute). ReceiversAreAlike t.settings h.one g.1) gs (subst (AreAlikeForAll t h.one) (sym all) h.alike))
+    (recursion_from_All (IsNoted t it.0.1) hs noted) (recursion_from_All (IsPlainForBoth asked) hs plain) in
+    record {
+      placed = h.placed;
+      due = λ none.
+          sym (due_alike t h.one d speech it.0.1 gs all judged (recursion_from_All (λ (h : ℕ × List Attribute). t.held h.0 it.0.1 ≡ Some h.1) gs each) h.unheld none)
+          ∙ h.due h.one h.same h.unheld;
+    }
+
+-- news of a block, where what was decided serves at the number of each
+pub all_plain_here : (t : Held) (ins : AdjIns) (c d : ℕ) (speech : Speech) (asked : Asked) (ns : List News) → PassesPlainly t.settings c asked.first → PassesPlainly t.settings d asked.next
+    → AllByRecursion (λ (n : News). ServesAt t ins d asked n.number) ns → AreDueAlike t ins c speech (map change_of ns) → AreDueHere t ins d speech (map change_of ns)
+all_plain_here t ins c d speech asked [] first next serves h = tt
+all_plain_here t ins c d speech asked (n ∷ ns) first next serves h = (serves.0 c speech (seen (change_of n)) first next refl h.0, all_plain_here t ins c d speech asked ns first next serves.1 h.1)
+
+-- what is known doesn't depend on where the next is looked for
+pub still_known : (t : Held) (ins : AdjIns) (c : ℕ) (speech : Speech) (old new : Known) → new ≡ record old { next = new.next; next_whole = new.next_whole } → AreKnown t ins c speech old → AreKnown t ins c speech new
+still_known t ins c speech old new is h = subst (AreKnown t ins c speech) (sym is) (record { other = h.other; listed = h.listed; same = h.same; first = h.first; next = h.next })
+
+-- nothing is known
+pub nothing_known : (t : Held) (ins : AdjIns) (c : ℕ) (speech : Speech) (it : Known) → it.changes.now ≡ [] → it.wholes.now ≡ [] → it.asked ≡ None → AreKnown t ins c speech it
+nothing_known t ins c speech it changes wholes asked = record {
+  other = c;
+  listed = listed_is t ins c speech speech [] it.changes.now [] it.wholes.now refl changes wholes (record { changes = tt; wholes = tt });
+  same = λ none. refl;
+  first = λ marks some. absurd (let f : None ≡ Some marks = sym asked ∙ some in (cc f));
+  next = λ marks some. absurd (let f : None ≡ Some marks = sym asked ∙ some in (cc f));
+}
+
+-- one more holder of a route that goes plainly to both
+pub plain_with : (asked : Asked) (h : (ℕ × List Attribute) × ℕ) (hs : List ((ℕ × List Attribute) × ℕ)) → IsPlainForBoth asked h → All (IsPlainForBoth asked) hs → All (IsPlainForBoth asked) (h ∷ hs)
+plain_with asked h hs this rest = All-from_recursion (IsPlainForBoth asked) (h ∷ hs) (this, recursion_from_All (IsPlainForBoth asked) hs rest)
 
 -- one more holder
 pub alike_with : (t : Held) (c : ℕ) (h : ℕ × List Attribute) (hs : List (ℕ × List Attribute)) → ReceiversAreAlike t.settings c h.1 → AreAlikeForAll t c hs → AreAlikeForAll t c (h ∷ hs)
@@ -133,6 +209,10 @@ learned_here t ins c speech it hs all known each alike placed none is = record {
       (judged_for_all t c d it.0.1 hs same (recursion_from_All (λ h. h.0 < length t.settings.clients) hs known) (recursion_from_All (λ h. ReceiversAreAlike t.settings c h.1) hs alike))
       (recursion_from_All (λ h. t.held h.0 it.0.1 ≡ Some h.1) hs each) none nor)
       ∙ sym is;
+  one = c;
+  same = refl;
+  unheld = none;
+  alike = subst (AreAlikeForAll t c) all alike;
 }
 
 pub due_more : (t : Held) (ins : AdjIns) (c : ℕ) (speech : Speech) (cs : List Change) (x : Change) → AreDueAlike t ins c speech cs → IsDueAlike t ins c speech (seen x) → AreDueAlike t ins c speech (cs ++ x ∷ [])
@@ -202,42 +282,56 @@ module _ (ins : AdjIns) (due_at : Prefix → Option (List Attribute)) (rows : Li
 free_is_own : (rows : List (Option Row)) (n : ℕ) (p : Prefix) → row_at rows n ≡ None → IsOwn (row_at rows n) p
 free_is_own rows n p free = λ r there. absurd (let f : None ≡ Some r = sym free ∙ there in (cc f))
 
--- a route that is due alike, to a client that holds none, whose row is free
-change_here : (t : Held) (ins : AdjIns) (c : ℕ) (speech : Speech) (rows : List (Option Row)) (n : ℕ) (x : Change) → IsDueAlike t ins c speech (seen x) → x.number ≡ n → ((p : Prefix) → number_of ins p ≡ Some n → t.held c p ≡ None) → row_at rows n ≡ None
+-- a route that is due here, to a client that holds none, whose row is free
+change_here : (t : Held) (ins : AdjIns) (c : ℕ) (speech : Speech) (rows : List (Option Row)) (n : ℕ) (x : Change) → IsDueHere t ins c speech (seen x) → x.number ≡ n → ((p : Prefix) → number_of ins p ≡ Some n → t.held c p ≡ None) → row_at rows n ≡ None
     → IsChangeAt ins (due_to t c speech) rows n x
 change_here t ins c speech rows n x h is unheld free =
     let placed : number_of ins x.prefix ≡ Some n = h.placed ∙ ap (λ k. Some k) is in
     record {
       number = is;
       placed = placed;
-      due = sym (h.due c refl (unheld x.prefix placed));
+      due = sym (h.due (unheld x.prefix placed));
       own = free_is_own rows n x.prefix free;
     }
 
-pub news_here : (t : Held) (ins : AdjIns) (c : ℕ) (speech : Speech) (rows : List (Option Row)) (ns : List News) → AreDueAlike t ins c speech (map change_of ns) → AreUnheld t ins c (numbers_of (map change_of ns)) → AreFree rows ns
+pub news_here : (t : Held) (ins : AdjIns) (c : ℕ) (speech : Speech) (rows : List (Option Row)) (ns : List News) → AreDueHere t ins c speech (map change_of ns) → AreUnheld t ins c (numbers_of (map change_of ns)) → AreFree rows ns
     → AllByRecursion (λ (n : News). IsChangeAt ins (due_to t c speech) rows n.number (change_of n)) ns
 news_here t ins c speech rows [] h unheld free = tt
 news_here t ins c speech rows (n ∷ ns) h unheld free = (change_here t ins c speech rows n.number (change_of n) h.0 refl unheld.0 free.0, news_here t ins c speech rows ns h.1 unheld.1 free.1)
 
--- nothing is due alike, and a free row has it
-nothing_here : (t : Held) (ins : AdjIns) (c : ℕ) (speech : Speech) (rows : List (Option Row)) (n : ℕ) (x : Change) → IsDueAlike t ins c speech (seen x) → x.number ≡ n → x.due ≡ None → ((p : Prefix) → number_of ins p ≡ Some n → t.held c p ≡ None) → row_at rows n ≡ None
-    → (p : Prefix) → number_of ins p ≡ Some n → attributes_at rows n ≡ due_to t c speech p
-nothing_here t ins c speech rows n x h is none unheld free p at =
+-- what is due here to a client that holds nothing, as news
+known_news : (t : Held) (ins : AdjIns) (c : ℕ) (speech : Speech) (n : ℕ) (x : Change) (found : Option News) → IsDueHere t ins c speech (seen x) → x.number ≡ n → ((p : Prefix) → number_of ins p ≡ Some n → t.held c p ≡ None)
+    → IfSome found (λ (news : News). seen (change_of news) ≡ seen x) → (found ≡ None → x.due ≡ None) → AreNewsAt ins (due_to t c speech) n found
+known_news t ins c speech n x (Some news) h is unheld same none =
     let placed : number_of ins x.prefix ≡ Some n = h.placed ∙ ap (λ k. Some k) is in
-    let same : p ≡ x.prefix = number_once ins p x.prefix n at placed in
-    ap shown free ∙ sym (ap (option_map arc_value) none) ∙ sym (h.due c refl (unheld x.prefix placed)) ∙ ap (due_to t c speech) (sym same)
+    record {
+      placed = (ap (λ (s : Seen). s.0.0) same ∙ is, ap (λ (s : Seen). number_of ins s.0.1) same ∙ placed);
+      due = λ p at. ap (λ (s : Seen). s.1) same ∙ sym (h.due (unheld x.prefix placed)) ∙ ap (due_to t c speech) (number_once ins x.prefix p n placed at);
+    }
+known_news t ins c speech n x None h is unheld same none =
+    let placed : number_of ins x.prefix ≡ Some n = h.placed ∙ ap (λ k. Some k) is in
+    record {
+      placed = tt;
+      due = λ p at. sym (ap (option_map arc_value) (none refl)) ∙ sym (h.due (unheld x.prefix placed)) ∙ ap (due_to t c speech) (number_once ins x.prefix p n placed at);
+    }
 
-pub one_here : (t : Held) (ins : AdjIns) (c : ℕ) (speech : Speech) (rows : List (Option Row)) (n : ℕ) (x : Change) (news : News) → IsDueAlike t ins c speech (seen x) → x.number ≡ n → seen (change_of news) ≡ seen x
-    → ((p : Prefix) → number_of ins p ≡ Some n → t.held c p ≡ None) → row_at rows n ≡ None → (old new : List Change) → new ≡ old ++ change_of news ∷ [] → AreDecidedAt ins (due_to t c speech) rows (n ∷ []) old new
-one_here t ins c speech rows n x news h is same unheld free old new more = (
+pub news_made : {E : Type 0} (t : Held) (ins : AdjIns) (c : ℕ) (speech : Speech) (n : ℕ) (x : Change) (made : Result (Option News) E) → IsDueHere t ins c speech (seen x) → x.number ≡ n → ((p : Prefix) → number_of ins p ≡ Some n → t.held c p ≡ None)
+    → IfOk made (λ found. IfSome found (λ (news : News). seen (change_of news) ≡ seen x)) → IfOk made (λ found. found ≡ None → x.due ≡ None) → IfOk made (AreNewsAt ins (due_to t c speech) n)
+news_made t ins c speech n x (Ok found) h is unheld same none = known_news t ins c speech n x found h is unheld same none
+news_made t ins c speech n x (Err e) h is unheld same none = tt
+
+-- news at a number whose row is free are a change there
+pub one_here : (ins : AdjIns) (due_at : Prefix → Option (List Attribute)) (rows : List (Option Row)) (n : ℕ) (news : News) → AreNewsAt ins due_at n (Some news) → row_at rows n ≡ None
+    → (old new : List Change) → new ≡ old ++ change_of news ∷ [] → AreDecidedAt ins due_at rows (n ∷ []) old new
+one_here ins due_at rows n news h free old new more = (
   new,
-  inr (change_of news, change_here t ins c speech rows n (change_of news) (subst (IsDueAlike t ins c speech) (sym same) h) (ap (λ (s : Seen). s.0.0) same ∙ is) unheld free, more),
+  inr (change_of news, record { number = h.placed.0; placed = h.placed.1; due = h.due news.prefix h.placed.1; own = free_is_own rows n news.prefix free }, more),
   refl,
 )
 
-pub none_here : (t : Held) (ins : AdjIns) (c : ℕ) (speech : Speech) (rows : List (Option Row)) (n : ℕ) (x : Change) → IsDueAlike t ins c speech (seen x) → x.number ≡ n → x.due ≡ None → ((p : Prefix) → number_of ins p ≡ Some n → t.held c p ≡ None) → row_at rows n ≡ None
-    → (old : List Change) → AreDecidedAt ins (due_to t c speech) rows (n ∷ []) old old
-none_here t ins c speech rows n x h is none unheld free old = (old, inl (refl, nothing_here t ins c speech rows n x h is none unheld free), refl)
+-- where there is none, the row has what is due
+pub none_here : (ins : AdjIns) (due_at : Prefix → Option (List Attribute)) (rows : List (Option Row)) (n : ℕ) → AreNewsAt ins due_at n None → row_at rows n ≡ None → (old : List Change) → AreDecidedAt ins due_at rows (n ∷ []) old old
+none_here ins due_at rows n h free old = (old, inl (refl, λ p at. ap shown free ∙ h.due p at), refl)
 
 -- the numbers of the first entries
 abbrev no_entries : List (ℕ × Prefix)
@@ -278,9 +372,6 @@ decided_so ins due_at rows n old new o (inl is) there p at =
 decided_so ins due_at rows n old new o (inr is) there p at =
     let some : o ≡ Some is.0 = there ∙ ap (λ cs. slice_get cs (length old)) is.2 ∙ got_last old is.0 in
     ap (λ o. unwrap_or (option_map (λ (c : Change). option_map arc_value c.due) o) (attributes_at rows n)) some ∙ is.1.due ∙ ap due_at (number_once ins is.0.prefix p n is.1.placed at)
-
-pub known_is : (t : Held) (ins : AdjIns) (c : ℕ) (speech more : Speech) (cs ds : List Change) (ws xs : List Whole) → more ≡ speech → ds ≡ cs → xs ≡ ws → AreKnown t ins c speech cs ws → AreKnown t ins c more ds xs
-known_is t ins c speech more cs ds ws xs spoken changes wholes h = subst (λ s. AreKnown t ins c s ds xs) (sym spoken) (subst (λ cs. AreKnown t ins c speech cs xs) (sym changes) (subst (AreKnown t ins c speech cs) (sym wholes) h))
 
 pub wholes_push : (t : Held) (ins : AdjIns) (c : ℕ) (speech : Speech) (ws : List Whole) (w : Whole) → AllByRecursion (λ w. AreDueAlike t ins c speech (map change_of (news_within w))) ws → AreDueAlike t ins c speech (map change_of (news_within w))
     → AllByRecursion (λ w. AreDueAlike t ins c speech (map change_of (news_within w))) (ws ++ w ∷ [])

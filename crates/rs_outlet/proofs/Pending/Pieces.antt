@@ -35,11 +35,6 @@ rise k (n ∷ ns) are = (
   rise (suc k) ns (λ i m at. let e = are (suc i) m at in omega (arith, e)),
 )
 
-pub risen : (k : ℕ) (ns : List News) → Rise k ns → AreFrom k ns
-risen k [] are i n at = absurd (let f : ◌≡◌ {A = Option News} None (Some n) = at in cc)
-risen k (m ∷ ns) are zero n at = let e : m.number ≡ n.number = ap (λ (x : News). x.number) (same_Some m n at) in omega (arith, e, are.0)
-risen k (m ∷ ns) are (suc i) n at = let e = risen (suc k) ns are.1 i n at in omega (arith, e)
-
 pub from_written : (k : ℕ) (ns : List News) (rows : List (Option Row)) → Rise k ns → written_from k (map row_of ns) rows ≡ written ns rows
 from_written k [] rows are = refl
 from_written k (n ∷ ns) rows are = from_written (suc k) ns (slice_set rows k (row_of n)) are.1 ∙ ap (λ m. written ns (slice_set rows m (row_of n))) (sym are.0)
@@ -56,10 +51,6 @@ pub from_once : (k : ℕ) (ns : List News) → Rise k ns → IsDistinct nat_eq (
 unfolding IsDistinct
 from_once k [] are = tt
 from_once k (n ∷ ns) are = (subst (λ j. AllByRecursion (λ m. nat_eq j m ≡ false) (numbers_of (map change_of ns))) (sym are.0) (from_apart k (suc k) ns (omega arith) are.1), from_once (suc k) ns are.1)
-
-pub from_push : (k : ℕ) (ns : List News) (n : News) → Rise k ns → n.number ≡ k + length ns → Rise k (ns ++ n ∷ [])
-from_push k [] n are is = (omega (arith, is), tt)
-from_push k (m ∷ ns) n are is = (are.0, from_push (suc k) ns n are.1 (omega (arith, is)))
 
 -- a number among them is one of theirs
 pub from_any : (k m : ℕ) (ns : List News) → Rise k ns → k ≤ m → m < k + length ns → list_any (nat_eq m) (numbers_of (map change_of ns)) ≡ true
@@ -97,24 +88,6 @@ one_more ns i n below count =
 
 pub sixteen : (f : Filled) → length f.news.items ≡ 16
 sixteen f = sym (length-map f.news.items row_of) ∙ sym (ap length f.rows) ∙ (let b = arc_value f.block in b.full)
-
--- ---- news as changes
-
-taken_seen : (cs : List Change) (i : ℕ) (c : Change) → i < length cs → c ≡ get_or cs i c → map seen (take (suc i) cs) ≡ map seen (take i cs) ++ seen c ∷ []
-taken_seen [] i c below is = absurd (omega (arith, below))
-taken_seen (x ∷ cs) zero c below is = ap (λ (y : Change). seen y ∷ []) (sym is)
-taken_seen (x ∷ cs) (suc i) c below is = ap (λ ys. seen x ∷ ys) (taken_seen cs i c (omega (arith, below)) is)
-
-pub seen_more : (ns : List News) (n : News) (cs : List Change) (i : ℕ) (c : Change) → map seen (map change_of ns) ≡ map seen (take i cs) → i < length cs → c ≡ get_or cs i c → seen (change_of n) ≡ seen c
-    → map seen (map change_of (ns ++ n ∷ [])) ≡ map seen (take (i + 1) cs)
-seen_more ns n cs i c so_far below is same =
-    ap (map seen) (map-append change_of ns (n ∷ [])) ∙ map-append seen (map change_of ns) (change_of n ∷ [])
-    ∙ (λ j. so_far j ++ same j ∷ [])
-    ∙ sym (taken_seen cs i c below is)
-    ∙ ap (λ k. map seen (take k cs)) (let e : suc i ≡ i + 1 = omega arith in e)
-
-pub some_seen : (o : Option News) (n : News) (c : Change) → o ≡ Some n → IfSome o (λ m. seen (change_of m) ≡ seen c) → seen (change_of n) ≡ seen c
-some_seen o n c is h = subst (λ p. IfSome p (λ m. seen (change_of m) ≡ seen c)) is h
 
 -- ---- pieces
 

@@ -21,8 +21,8 @@ returns c = λ speech so known.
     let n = c.args.number in
     let p = c.in-Some.prefix in
     let placed : number_of s.ins.now p ≡ Some n = number_back s.ins.now p n (sym c.prefix.ensures ∙ c.in-Some.is) in
-    let hs = sent c.at_number.result in
-    let listed : ListsHolders s.ins.now p hs = c.at_number.ensures.holders p placed in
+    let hs = sent c.at_number-holders.result in
+    let listed : ListsHolders s.ins.now p hs = c.at_number-holders.ensures.holders p placed in
     let due : option_map arc_value c.match-change.due ≡ unwrap_or (option_map (λ (c : Change). option_map arc_value c.due) (option_copied c.args.change)) (attributes_at c.args.rows.now.rows.items n) =
     elim c.match-change.branch [
       | in-Some-change+in_ok-due-in-Some-change w ↦

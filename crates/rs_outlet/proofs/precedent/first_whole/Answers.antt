@@ -8,7 +8,7 @@ use Rattle.rs_outlet.proofs.precedent.first_whole.Goals as goal
 pub returns-clause-due : goal.returns-clause-due
 returns-clause-due c = λ t ins client speech known due.
     subst (λ ns. AreDueAlike t ins client speech (map change_of ns)) (sym c.in_ok-copy.ensures)
-    (if_some_at _ c.find_whole.result c.in-Some.whole c.in-Some.is (c.find_whole.ensures.due t ins client speech known))
+    (if_some_at _ c.find_alike.result c.in-Some.whole c.in-Some.is (c.find_alike.ensures.due t ins client speech known))
 
 pub returns-in_ok-of-in-Some-2-clause-due : goal.returns-in_ok-of-in-Some-2-clause-due
 returns-in_ok-of-in-Some-2-clause-due c = λ t ins client speech known due.

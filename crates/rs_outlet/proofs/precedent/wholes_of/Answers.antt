@@ -1,18 +1,17 @@
-use Rattle.std.proofs.Common.{◌∙◌, ◌-◌, length, map, take, drop, refl, sym, subst}
+use Rattle.std.proofs.Common.{◌-◌, length, map, take, drop, sym, subst}
 use Rattle.std.specs.List.{AllByRecursion}
 use Rattle.rs_outlet.specs.declared.filled.Whole.{Whole}
 use Rattle.rs_outlet.specs.Decided.News.{change_of}
 use Rattle.rs_outlet.specs.Decided.Plans.{news_within}
 use Rattle.rs_outlet.specs.Decided.Precedents.{AreDueAlike}
 use Rattle.rs_outlet.proofs.Answered.{if_some_at}
-use Rattle.rs_outlet.proofs.Decided.Precedents.{due_behind, due_first, known_is, wholes_push}
+use Rattle.rs_outlet.proofs.Decided.Precedents.{due_behind, due_first, still_known, wholes_push}
 use Rattle.rs_outlet.proofs.precedent.wholes_of.Goals as goal
 use Rattle.rs_outlet.proofs.precedent.wholes_of.Goals.{in-Some+in_ok-push, in_default}
 
 pub loop-index-preserved : goal.loop-index-preserved
 loop-index-preserved c = record {
-  changes = c.first_whole.ensures.changes ∙ c.loop-index.invariant.changes;
-  wholes = c.first_whole.ensures.wholes ∙ c.loop-index.invariant.wholes;
+  known = λ t ins client speech known. still_known t ins client speech c.loop-index.known _ c.first_whole.ensures.rest (c.loop-index.invariant.known t ins client speech known);
   due = λ t ins client speech known due.
       let P = λ (w : Whole). AreDueAlike t ins client speech (map change_of (news_within w)) in
       let cs = c.args.changes.now in
@@ -20,7 +19,7 @@ loop-index-preserved c = record {
       let so_far = c.loop-index.invariant.due t ins client speech known due in
       let slice = take (length cs - i) (drop i cs) in
       let here = due_first t ins client speech (length cs - i) (drop i cs) (due_behind t ins client speech i cs due) in
-      let still = known_is t ins client speech speech _ c.loop-index.known.changes.now _ c.loop-index.known.wholes.now refl c.loop-index.invariant.changes c.loop-index.invariant.wholes known in
+      let still = c.loop-index.invariant.known t ins client speech known in
       elim c.match-branch-2.branch [
         | in-Some+in_ok-push w ↦
             subst (λ (v : _). AllByRecursion P v.items) (sym w.wholes-is)

@@ -1,60 +1,37 @@
-use Rattle.std.proofs.Common.{◌≡◌, ◌<◌, ◌≤◌, ℕ, Bool, true, false, cond, nat_lt, Some, arith, refl, rules, subst, sym}
-use Rattle.rs_outlet.specs.Decided.Choices.{AreChoices}
-use Rattle.rs_outlet.specs.declared.choices.Choices.{Choices}
+use Rattle.std.proofs.Common.{◌≡◌, ◌<◌, ℕ, Some, true, arith, subst, sym}
 use Rattle.rs_octets.specs.Prefixes.{Prefix}
 use Rattle.rs_adjin.specs.AdjIns.{number_of}
-use Rattle.std.proofs.lemmas.Bool.Decides.{nat_tests}
+use Rattle.rs_outlet.specs.declared.turn.Decided.{Decided}
+use Rattle.rs_outlet.specs.Decided.Counted.{is_counted}
 use Rattle.rs_outlet.specs.Decided.Due.{any_holds, due_to}
 use Rattle.rs_outlet.specs.Decided.HeldBy.{held_by}
-use Rattle.rs_outlet.proofs.Decided.Memo.{no_memo}
-use Rattle.rs_outlet.proofs.Decided.Counting.{none_counted, next_counted, all_counted}
-use Rattle.rs_outlet.proofs.Decided.Decisions.{none_decided, next_decided, all_decided}
+use Rattle.rs_outlet.specs.Decided.Plans.{IsPlanned}
+use Rattle.rs_outlet.specs.Views.{IsNumberOf}
 use Rattle.rs_outlet.proofs.turn.decide_all.Goals as goal
+use Rattle.rs_outlet.proofs.turn.decide_all.Goals.{then-idle+then-used-eq0+in_ok-decided, else-idle+in_ok-decided-2}
 
-at_most_one : (b : Bool) → cond b 1 0 ≤ 1
-at_most_one true = omega arith
-at_most_one false = omega arith
-
-pub loop-number-init : goal.loop-number-init
-loop-number-init c = record {
-  changes =
-      none_decided c.args.sources.now.ins.now (due_to (held_by c.args.sources.now) c.args.sources.now.client c.args.speech) c.args.rows.now.rows.items
-      (λ m. nat_lt m 0) _ c.new-changes.ensures.items (λ m. grind (arith, nat_tests));
-  choices = subst (AreChoices (held_by c.args.sources.now) c.args.sources.now.ins.now) (sym c.from_choices-draft.ensures.made) c.requires.choices;
-  memo = no_memo c.args.sources.now.config.now c.args.sources.now.client c.from_choices-draft.result.memo c.from_choices-draft.ensures.memo;
-  most = omega arith;
-  count = none_counted c.args.sources.now.ins.now c.args.rows.now.rows.items (any_holds (held_by c.args.sources.now));
-}
-
-pub loop-number-preserved : goal.loop-number-preserved
-loop-number-preserved c =
-    let ins = c.args.sources.now.ins.now in
+pub returns-clause-plan : goal.returns-clause-plan
+returns-clause-plan c =
+    let s = c.args.sources.now in
+    let due_at = due_to (held_by s) s.client c.args.speech in
     let rows = c.args.rows.now.rows.items in
-    let one : c.from-count.result ≡ cond c.in_ok-decided.decided 1 0 = search rules in
-    let inv = c.loop-number.invariant in
-    record {
-      changes =
-          next_decided ins (due_to (held_by c.args.sources.now) c.args.sources.now.client c.args.speech) rows
-          c.loop-number.number c.loop-number.changes.items _ inv.changes c.in_ok-decided.ensures.changes;
-      choices = c.in_ok-decided.ensures.choices;
-      memo = c.in_ok-decided.ensures.memo;
-      most = omega (arith, inv.most, at_most_one c.in_ok-decided.decided, one);
-      count =
-          next_counted ins rows (any_holds (held_by c.args.sources.now)) c.loop-number.number c.loop-number.count c.from-count.result c.in_ok-decided.decided one
-          c.in_ok-decided.ensures.free c.in_ok-decided.ensures.standing inv.count;
-    }
+    let below : (p : Prefix) (n : ℕ) → number_of s.ins.now p ≡ Some n → n < c.in-Ok.numbers = λ p n at. let low = c.numbers.ensures p n at in omega (arith, low, c.in-Ok.ensures) in
+    elim c.if-idle.branch [
+      | then-idle+then-used-eq0+in_ok-decided w ↦
+          subst (λ b. IsPlanned s.ins.now due_at rows (λ number. true) b c.if-idle.decided.plan) (sym w.if-idle.true)
+          (subst (λ (it : Decided). IsPlanned s.ins.now due_at rows (λ number. true) true it.plan) (sym w.decided-is) (w.in_ok-decided.ensures.plan below))
+      | else-idle+in_ok-decided-2 w ↦
+          subst (λ (it : Decided). IsPlanned s.ins.now due_at rows (λ number. true) c.args.idle it.plan) (sym w.decided-is) (w.in_ok-decided-2.ensures.plan c.args.idle below)
+    ]
 
-pub returns : goal.returns
-returns c =
-    let ins = c.args.sources.now.ins.now in
-    let rows = c.args.rows.now.rows.items in
-    let below : (p : Prefix) (n : ℕ) → number_of ins p ≡ Some n → n < c.loop-number.number = λ p n at. let low = c.numbers.ensures p n at in omega (arith, low) in
-    record {
-      plan = λ idle. record {
-        decided = all_decided ins (due_to (held_by c.args.sources.now) c.args.sources.now.client c.args.speech) rows c.loop-number.number c.loop-number.changes.items c.loop-number.invariant.changes below;
-        fitting = tt;
-      };
-      count = all_counted ins rows (any_holds (held_by c.args.sources.now)) c.loop-number.number c.loop-number.count below c.loop-number.invariant.count;
-      whole = refl;
-      choices = subst (λ (left : Choices). AreChoices (held_by c.args.sources.now) ins left.kept.items) (sym c.into_choices.ensures) c.loop-number.invariant.choices;
-    }
+pub returns-clause-count : goal.returns-clause-count
+returns-clause-count c =
+    let s = c.args.sources.now in
+    let is_in = is_counted s.ins.now c.args.rows.now.rows.items (any_holds (held_by s)) in
+    let below : (p : Prefix) (n : ℕ) → number_of s.ins.now p ≡ Some n → n < c.in-Ok.numbers = λ p n at. let low = c.numbers.ensures p n at in omega (arith, low, c.in-Ok.ensures) in
+    elim c.if-idle.branch [
+      | then-idle+then-used-eq0+in_ok-decided w ↦
+          subst (λ (it : Decided). IsNumberOf is_in it.count) (sym w.decided-is) (w.in_ok-decided.ensures.count below)
+      | else-idle+in_ok-decided-2 w ↦
+          subst (λ (it : Decided). IsNumberOf is_in it.count) (sym w.decided-is) (w.in_ok-decided-2.ensures.count below)
+    ]

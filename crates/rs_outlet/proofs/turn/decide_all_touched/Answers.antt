@@ -45,4 +45,4 @@ pub returns-in-None-clause-plan : goal.returns-in-None-clause-plan
 returns-in-None-clause-plan c =
     let s = c.args.sources.now in
     subst (λ b. IfOk c.decide_all.result (λ decided. IsPlanned s.ins.now (due_to (held_by s) s.client c.args.speech) c.args.rows.now.rows.items (is_number_touched b c.args.touched.now.prefixes.items) c.args.idle decided.plan))
-    (sym (sym c.in_ok-list.ensures.all ∙ ap is_none c.in-None.is)) (c.decide_all.ensures.plan c.args.idle)
+    (sym (sym c.in_ok-list.ensures.all ∙ ap is_none c.in-None.is)) c.decide_all.ensures.plan

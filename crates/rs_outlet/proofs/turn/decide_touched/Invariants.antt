@@ -13,7 +13,7 @@ abbrev pub invariant-loop-number : goal.invariant-loop-number
 invariant-loop-number l = record {
   decided : AreDecided l.sources.ins.now (due_to (held_by l.sources) l.sources.client l.speech) l.rows.rows.items (is_numbered_in (take l.number-index l.touched)) l.changes.items;
   choices : AreChoices (held_by l.sources) l.sources.ins.now l.draft.choices.kept.items;
-  known : AreKnown (held_by l.sources) l.sources.ins.now l.sources.client l.speech l.known.changes.now l.known.wholes.now;
+  known : AreKnown (held_by l.sources) l.sources.ins.now l.sources.client l.speech l.known;
   learned : IfSome l.learned (λ learned. AreDueAlike (held_by l.sources) l.sources.ins.now l.sources.client l.speech learned.items);
   memo : IsMemo l.sources.config.now l.sources.client l.draft.memo;
 }

@@ -18,3 +18,6 @@ loop-k-preserved g c =
       λ j d below. subst (λ (xs : List View). TurnedAlone c.args.config.now c.args.tables.now (get_or c.args.outlets.now j d) (get_or xs j d)) outlets (walked.1 j d below),
       c.turn_one.ensures.handover,
     )
+
+pub turn_one-requires-clause-handover : goal.turn_one-requires-clause-handover
+turn_one-requires-clause-handover g c = c.lend_to.ensures (tables_of c.args.config.now c.args.tables.now) c.args.tables.now c.loop-k.invariant.2

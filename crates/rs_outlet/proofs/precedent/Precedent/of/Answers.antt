@@ -7,9 +7,10 @@ pub returns : goal.returns
 returns c =
     let s = c.args.sources.now in
     record {
-      client = c.requires.client;
-      known = record {
+      client = c.requires.server.client;
+      listed = record {
         changes = c.requires.due;
         wholes = c.in_ok-wholes.ensures (held_by s) s.ins.now s.client c.args.speech c.requires.known (subst (AreDueAlike (held_by s) s.ins.now s.client c.args.speech) (sym c.deref.ensures.value) c.requires.due);
       };
+      plain = c.requires.server.plain;
     }
