@@ -12,6 +12,7 @@ ghost use Rattle.rs_policy.specs.Noted.{note_of_import};
 mod alike;
 mod asking;
 mod refused;
+mod sharing;
 mod told;
 
 use crate::common::{self, equals, is_so, put, shared};

@@ -1,9 +1,9 @@
-//! Clients to which the same rules apply are told of one copy of what these leave of a route, and have one copy of their rows.
+//! Clients to which the same rules apply are told of one copy of what these leave of a route, and what was decided for one serves others.
 
 ghost use Rattle.rs_outlet.specs.Decided.Precedents.{IsHandover};
 ghost use Rattle.rs_outlet.specs.Decided.HeldBy.{tables_of};
 
-use super::{CLIENT, Exchange, SENDER, all, drain, let_go, prefix, some};
+use super::{CLIENT, Exchange, SENDER, all, let_go, prefix, some};
 use crate::common::{equals, shared};
 use rs_attrs::{Attrs, Mode};
 use rs_open::Limit;
@@ -14,7 +14,7 @@ use std::process::Abort;
 use std::sync::Arc;
 
 /// A sender, two members to which a rule takes 64512:1 out of each route, and one to which another takes 64512:2 out.
-const STRIPPED: &str = concat!(
+pub(super) const STRIPPED: &str = concat!(
     "as = 64500\nidentifier = \"192.0.2.1\"\n",
     "[[client]]\nname = \"a\"\nas = 64512\nlisten = \"127.0.0.1:17901\"\npeer = \"127.0.1.1\"\n",
     "[[client]]\nname = \"b\"\nas = 64513\nlisten = \"127.0.0.1:17901\"\npeer = \"127.0.1.2\"\n",
@@ -52,6 +52,18 @@ const NAMING_THE_RECEIVER: &str = concat!(
     "export = [{ use = \"actions\" }]\n",
 );
 
+/// A sender, and three members, each with a rule of its own that asks for a community.
+const ASKING_APART: &str = concat!(
+    "as = 64500\nidentifier = \"192.0.2.1\"\n",
+    "[[client]]\nname = \"a\"\nas = 64512\nlisten = \"127.0.0.1:17901\"\npeer = \"127.0.1.1\"\n",
+    "[[client]]\nname = \"b\"\nas = 64513\nlisten = \"127.0.0.1:17901\"\npeer = \"127.0.1.2\"\n",
+    "export = [{ community = \"1:64513\", action = \"drop\" }]\n",
+    "[[client]]\nname = \"c\"\nas = 64514\nlisten = \"127.0.0.1:17901\"\npeer = \"127.0.1.3\"\n",
+    "export = [{ community = \"2:64514\", action = \"drop\" }]\n",
+    "[[client]]\nname = \"d\"\nas = 64515\nlisten = \"127.0.0.1:17901\"\npeer = \"127.0.1.4\"\n",
+    "export = [{ community = \"3:64515\", action = \"drop\" }]\n",
+);
+
 /// A sender, and a member to which 18 rules take 64512:1 out of routes with another community, by patterns of their own.
 const MANY_STRIPS: &str = concat!(
     "as = 64500\nidentifier = \"192.0.2.1\"\n",
@@ -80,7 +92,7 @@ const MANY_STRIPS: &str = concat!(
 );
 
 /// How many sets of attributes the sender announces to members that are alike, and how many to the one with many strips.
-const SETS: u8 = 40;
+pub(super) const SETS: u8 = 40;
 
 const STRIPS: u8 = 18;
 
@@ -88,7 +100,7 @@ const STRIPS: u8 = 18;
 const BLOCK: u32 = 16;
 
 /// ORIGIN IGP, AS_PATH 64512, NEXT_HOP 192.0.2.`host`, and the communities 64512:1 and 64512:`other`.
-fn attrs(rt: &impl Abort, alloc: Global, host: u8, other: u8) -> Arc<Attrs> {
+pub(super) fn attrs(rt: &impl Abort, alloc: Global, host: u8, other: u8) -> Arc<Attrs> {
     let field = [
         0x40, 1, 1, 0, 0x40, 2, 6, 2, 1, 0, 0, 0xfc, 0, 0x40, 3, 4, 0xc0, 0, 2, host, 0xc0, 8, 8,
         0xfc, 0, 0, 1, 0xfc, 0, 0, other,
@@ -97,7 +109,7 @@ fn attrs(rt: &impl Abort, alloc: Global, host: u8, other: u8) -> Arc<Attrs> {
 }
 
 /// The sender announces two prefixes with each of so many sets, whose other community is one number or rises from it.
-fn announce(rt: &impl Abort, exchange: &mut Exchange, sets: u8, other: u8, rises: bool) {
+pub(super) fn announce(rt: &impl Abort, exchange: &mut Exchange, sets: u8, other: u8, rises: bool) {
     for host in 0..sets {
         let other = if rises {
             other.saturating_add(host)
@@ -130,7 +142,12 @@ fn begun(rt: &impl Abort, exchange: &Exchange, client: usize) -> Outlet {
 }
 
 /// The outlet of a client, turned once.
-fn turned(rt: &impl Abort, exchange: &Exchange, client: usize, handover: &mut Handover) -> Outlet
+pub(super) fn turned(
+    rt: &impl Abort,
+    exchange: &Exchange,
+    client: usize,
+    handover: &mut Handover,
+) -> Outlet
     requires { IsHandover (tables_of exchange.now.config exchange.now.tables) exchange.now.tables handover.old }
     ensures { IsHandover (tables_of exchange.now.config exchange.now.tables) exchange.now.tables handover.new }
 {
@@ -139,15 +156,36 @@ fn turned(rt: &impl Abort, exchange: &Exchange, client: usize, handover: &mut Ha
     outlet
 }
 
+/// The outlet of a client, turned once beside one that lends its blocks.
+pub(super) fn turned_beside(
+    rt: &impl Abort,
+    exchange: &Exchange,
+    client: usize,
+    lender: &Outlet,
+    handover: &mut Handover,
+) -> Outlet
+    requires { IsHandover (tables_of exchange.now.config exchange.now.tables) exchange.now.tables handover.old }
+    ensures { IsHandover (tables_of exchange.now.config exchange.now.tables) exchange.now.tables handover.new }
+{
+    lender.lend_blocks(handover);
+    turned(rt, exchange, client, handover)
+}
+
 /// The outlet of a client for which all was decided while nothing was announced.
-fn waiting(rt: &impl Abort, exchange: &Exchange, client: usize) -> Outlet {
+pub(super) fn waiting(rt: &impl Abort, exchange: &Exchange, client: usize) -> Outlet {
     let mut outlet = begun(rt, exchange, client);
     exchange.decides(rt, &mut outlet, all(0));
     outlet
 }
 
 /// Each route of so many sets that the client is due has so many owners.
-fn have_owners(rt: &impl Abort, exchange: &Exchange, outlet: &Outlet, sets: u8, want: usize) {
+pub(super) fn have_owners(
+    rt: &impl Abort,
+    exchange: &Exchange,
+    outlet: &Outlet,
+    sets: u8,
+    want: usize,
+) {
     have_owners_in(rt, exchange, outlet, 0..u32::from(sets) * 2, want);
 }
 
@@ -166,7 +204,7 @@ fn have_owners_in(
 }
 
 /// The last octet of NEXT_HOP that the client is due for the first prefix.
-fn host_of(rt: &impl Abort, exchange: &Exchange, outlet: &Outlet) -> u32 {
+pub(super) fn host_of(rt: &impl Abort, exchange: &Exchange, outlet: &Outlet) -> u32 {
     let attrs = outlet.route(&prefix(rt, 0), &exchange.tables);
     let address = attrs.expect(rt, "a route").next_hop();
     address.expect(rt, "NEXT_HOP") % 256
@@ -189,7 +227,7 @@ fn clients_share_what_rules_left(rt: HostRuntime) {
 }
 
 /// The turns of three outlets, all touched at so many prefixes, of which one turn hands over to the next.
-fn turn_three(
+pub(super) fn turn_three(
     rt: &impl Abort,
     exchange: &Exchange,
     count: u32,
@@ -306,6 +344,45 @@ fn what_was_decided_serves_one_that_was_touched_at_more(rt: HostRuntime) {
     let_go(exchange, first);
 }
 
+/// One that was touched at fewer, but at some of which nothing is known, has the blocks of the others, and these beside them.
+#[test]
+fn what_is_not_known_is_decided_beside_what_is(rt: HostRuntime) {
+    let mut exchange = Exchange::of(&rt, rt.alloc(), DECIDED_ALIKE);
+    let mut first = waiting(&rt, &exchange, CLIENT);
+    let mut alike = waiting(&rt, &exchange, CLIENT + 1);
+    announce(&rt, &mut exchange, SETS, 2, false);
+    let count = u32::from(SETS) * 2;
+    turn_two(
+        &rt,
+        &exchange,
+        &mut first,
+        BLOCK..count,
+        &mut alike,
+        0..2 * BLOCK,
+    );
+    have_owners_in(&rt, &exchange, &alike, 0..2 * BLOCK, 2);
+    have_owners_in(&rt, &exchange, &first, BLOCK..count, 2);
+    let_go(exchange, first);
+}
+
+/// What was decided for one serves those whose rules ask for other communities, where the routes have none of them.
+#[test]
+fn what_was_decided_serves_those_that_ask_for_other_communities(rt: HostRuntime) {
+    let mut exchange = Exchange::of(&rt, rt.alloc(), ASKING_APART);
+    let mut first = waiting(&rt, &exchange, CLIENT);
+    let mut alike = waiting(&rt, &exchange, CLIENT + 1);
+    let mut other = waiting(&rt, &exchange, CLIENT + 2);
+    announce(&rt, &mut exchange, SETS, 2, false);
+    let held = exchange.tables.route(SENDER, prefix(&rt, 0));
+    let before = Arc::strong_count(held.expect(&rt, "a route"));
+    let count = u32::from(SETS) * 2;
+    turn_three(&rt, &exchange, count, &mut first, &mut alike, &mut other);
+    have_owners(&rt, &exchange, &first, SETS, before.saturating_add(2));
+    have_owners(&rt, &exchange, &alike, SETS, before.saturating_add(2));
+    have_owners(&rt, &exchange, &other, SETS, before.saturating_add(2));
+    let_go(exchange, first);
+}
+
 /// What was decided by rules that name the receiver serves the next one where no community does.
 #[test]
 fn what_was_decided_serves_those_whom_no_community_names(rt: HostRuntime) {
@@ -322,126 +399,48 @@ fn what_was_decided_serves_those_whom_no_community_names(rt: HostRuntime) {
     let_go(exchange, first);
 }
 
-/// A route of which a community names one receiver is due to the others, before and behind that one, and not to it; what is due to
-/// it elsewhere is.
-#[test]
-fn whom_a_community_names_is_decided_alone(rt: HostRuntime) {
-    let mut exchange = Exchange::of(&rt, rt.alloc(), NAMING_THE_RECEIVER);
-    let mut first = waiting(&rt, &exchange, CLIENT);
-    let mut named = waiting(&rt, &exchange, CLIENT + 1);
-    let mut other = waiting(&rt, &exchange, CLIENT + 2);
-    announce(&rt, &mut exchange, SETS, 2, false);
-    // 0:64514
+/// A route with one community, by this configuration, is due to two members, turned before and behind the one to which it is
+/// not; what is due to that one elsewhere is.
+fn is_kept_from_the_second(rt: &impl Abort, alloc: Global, text: &str, community: [u8; 4]) {
+    let mut exchange = Exchange::of(rt, alloc, text);
+    let mut first = waiting(rt, &exchange, CLIENT);
+    let mut second = waiting(rt, &exchange, CLIENT + 1);
+    let mut other = waiting(rt, &exchange, CLIENT + 2);
+    announce(rt, &mut exchange, SETS, 2, false);
+    let [a, b, c, d] = community;
     let field = [
-        0x40, 1, 1, 0, 0x40, 2, 6, 2, 1, 0, 0, 0xfc, 0, 0x40, 3, 4, 0xc0, 0, 2, 200, 0xc0, 8, 4, 0,
-        0, 0xfc, 2,
+        0x40, 1, 1, 0, 0x40, 2, 6, 2, 1, 0, 0, 0xfc, 0, 0x40, 3, 4, 0xc0, 0, 2, 200, 0xc0, 8, 4, a,
+        b, c, d,
     ];
-    let set = shared(&rt, exchange.alloc, &field);
-    exchange.announce(&rt, 0, &set);
+    let set = shared(rt, exchange.alloc, &field);
+    exchange.announce(rt, 0, &set);
     let count = u32::from(SETS) * 2;
-    turn_three(&rt, &exchange, count, &mut first, &mut named, &mut other);
-    equals(&rt, host_of(&rt, &exchange, &first), 200);
-    equals(&rt, host_of(&rt, &exchange, &other), 200);
+    turn_three(rt, &exchange, count, &mut first, &mut second, &mut other);
+    equals(rt, host_of(rt, &exchange, &first), 200);
+    equals(rt, host_of(rt, &exchange, &other), 200);
     equals(
-        &rt,
-        named.route(&prefix(&rt, 0), &exchange.tables).is_none(),
+        rt,
+        second.route(&prefix(rt, 0), &exchange.tables).is_none(),
         true,
     );
     equals(
-        &rt,
-        named.route(&prefix(&rt, 1), &exchange.tables).is_none(),
+        rt,
+        second.route(&prefix(rt, 1), &exchange.tables).is_none(),
         false,
     );
     let_go(exchange, first);
 }
 
-/// Outlets that have the same rows share them, and one that has others keeps its own: of each set one has two rows then.
+/// 0:64514 names the second.
 #[test]
-fn outlets_share_the_same_rows_alone(rt: HostRuntime) {
-    let mut exchange = Exchange::of(&rt, rt.alloc(), STRIPPED);
-    announce(&rt, &mut exchange, SETS, 2, false);
-    let mut handover = exchange.handover();
-    let mut first = turned(&rt, &exchange, CLIENT, &mut handover);
-    let mut alike = turned(&rt, &exchange, CLIENT + 1, &mut handover);
-    let mut other = turned(&rt, &exchange, CLIENT + 2, &mut handover);
-    drop(handover);
-    share_rows(&mut first, &mut alike);
-    other.adopt(&first);
-    other.settle();
-    have_owners(&rt, &exchange, &first, SETS, 2);
-    have_owners(&rt, &exchange, &alike, SETS, 2);
-    have_owners(&rt, &exchange, &other, SETS, 2);
-    let_go(exchange, first);
+fn whom_a_community_names_is_decided_alone(rt: HostRuntime) {
+    is_kept_from_the_second(&rt, rt.alloc(), NAMING_THE_RECEIVER, [0, 0, 0xfc, 2]);
 }
 
-/// What one of two outlets that share rows is due later, the other is not.
+/// 2:64514 is what the second asks for.
 #[test]
-fn shared_rows_are_written_apart(rt: HostRuntime) {
-    let mut exchange = Exchange::of(&rt, rt.alloc(), STRIPPED);
-    announce(&rt, &mut exchange, SETS, 2, false);
-    let mut handover = exchange.handover();
-    let mut first = turned(&rt, &exchange, CLIENT, &mut handover);
-    let mut alike = turned(&rt, &exchange, CLIENT + 1, &mut handover);
-    drop(handover);
-    share_rows(&mut first, &mut alike);
-    let changed = attrs(&rt, exchange.alloc, SETS, 3);
-    exchange.announce(&rt, 0, &changed);
-    exchange.touch(&rt, &mut first, 0..1, 1);
-    exchange.decides(&rt, &mut first, some(1));
-    equals(&rt, host_of(&rt, &exchange, &first), u32::from(SETS));
-    equals(&rt, host_of(&rt, &exchange, &alike), 0);
-    let_go(exchange, first);
-}
-
-/// Both outlets have one copy of the rows that are the same.
-fn share_rows(first: &mut Outlet, alike: &mut Outlet) {
-    first.settle();
-    alike.adopt(first);
-    alike.settle();
-}
-
-/// Another owner of what the client is due for the first prefix.
-fn owner(rt: &impl Abort, exchange: &Exchange, outlet: &Outlet) -> Arc<Attrs> {
-    let attrs = outlet.route(&prefix(rt, 0), &exchange.tables);
-    attrs.expect(rt, "a route").clone().expect(rt, "an owner")
-}
-
-/// The sender takes back so many prefixes.
-fn take_back(rt: &impl Abort, exchange: &mut Exchange, count: u32) {
-    for n in 0..count {
-        assert!(rt; SENDER < exchange.tables.clients());
-        exchange.tables.withdraw(SENDER, prefix(rt, n));
-    }
-}
-
-/// While two members wait to be told that routes are gone, what they were told lies in the blocks that they shared: each set has
-/// an owner there for each of its two prefixes, and one here. Once they are told, there is the one alone.
-#[test]
-fn what_two_were_told_is_there_once(rt: HostRuntime) {
-    let mut exchange = Exchange::of(&rt, rt.alloc(), STRIPPED);
-    announce(&rt, &mut exchange, SETS, 2, false);
-    let mut handover = exchange.handover();
-    let mut first = turned(&rt, &exchange, CLIENT, &mut handover);
-    let mut alike = turned(&rt, &exchange, CLIENT + 1, &mut handover);
-    drop(handover);
-    share_rows(&mut first, &mut alike);
-    let told = owner(&rt, &exchange, &first);
-    drain(&rt, &mut exchange, &mut first);
-    drain(&rt, &mut exchange, &mut alike);
-    exchange.forget_written(&rt);
-    let count = u32::from(SETS) * 2;
-    exchange.touch(&rt, &mut first, 0..count, 1);
-    exchange.touch(&rt, &mut alike, 0..count, 1);
-    take_back(&rt, &mut exchange, count);
-    exchange.decides(&rt, &mut first, some(count as usize));
-    exchange.decides(&rt, &mut alike, some(count as usize));
-    share_rows(&mut first, &mut alike);
-    equals(&rt, Arc::strong_count(&told), 3);
-    drain(&rt, &mut exchange, &mut first);
-    drain(&rt, &mut exchange, &mut alike);
-    equals(&rt, Arc::strong_count(&told), 1);
-    drop(alike);
-    let_go(exchange, first);
+fn who_asks_for_a_community_is_decided_alone_where_it_is(rt: HostRuntime) {
+    is_kept_from_the_second(&rt, rt.alloc(), ASKING_APART, [0, 2, 0xfc, 2]);
 }
 
 /// However many strips there are, prefixes of one set share what is left of it.

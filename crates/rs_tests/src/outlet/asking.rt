@@ -1,7 +1,7 @@
 //! Calls that take no memory. What counts their requests for it stands outside the program:
 //! `tools/plays/without_memory.py` runs these tests, and wants none between two lines that they print.
 
-use super::{Exchange, all, begin, change, decided, drain, is_drained, let_go, prefix};
+use super::{Exchange, all, begin, change, decided, drain, is_drained, let_go, prefix, some};
 use crate::common::{equals, from_here, to_here};
 use rs_open::Short;
 use rs_outlet::Outlet;
@@ -109,18 +109,21 @@ fn owners(rt: &impl Abort, exchange: &Exchange, outlet: &Outlet) -> usize {
     Arc::strong_count(attrs.expect(rt, "a route"))
 }
 
-/// The first prefix has the attributes of 30 rows, which are given up.
+/// The first prefix has the attributes of 60 rows, which turns wrote anew, and which are given up.
 #[test]
 fn rows_of_another_in_place_of_the_same(rt: HostRuntime) {
-    let (exchange, mut first) = decided(&rt, rt.alloc(), 60);
+    let (mut exchange, mut first) = decided(&rt, rt.alloc(), 60);
     let mut alike = exchange.outlet(&rt);
     exchange.decides(&rt, &mut alike, all(60));
+    change(&rt, &mut exchange, &mut first, 0..60);
+    exchange.touch(&rt, &mut alike, 0..60, 1);
+    exchange.decides(&rt, &mut alike, some(60));
     first.settle();
     let before = owners(&rt, &exchange, &alike);
     from_here(&rt);
     alike.adopt(&first);
     to_here(&rt);
     let given_up = before.saturating_sub(owners(&rt, &exchange, &alike));
-    equals(&rt, given_up, 30);
+    equals(&rt, given_up, 60);
     let_go(exchange, first);
 }
