@@ -4,11 +4,12 @@ play.py refused PROGRAM FOLDER
 
 Of the requests for memory of a session, by 1 and by 2 workers, each is refused in a run of its own. It must show as a
 line `memory NAME`, with `close NAME` where octets came and without at a turn; as `rules refused: out of memory`; or as status 3
-with the words `out of memory`, and then what was written is a front of what is written else. Five kinds show as nothing: the
+with the words `out of memory`, and then what was written is a front of what is written else. Six kinds show as nothing: the
 one request of READING; those for a number that octets turn out not to need, since their prefix or their attributes have one;
 those by which a thread is started for a turn by 2 workers, which is then done on one; those of a turn for what serves other
 clients too, choices, what rules left of routes, and what is due alike with the blocks made of it, which is then made anew for
-these; and those behind a turn by which other clients can have the same rows, which are then the client's own still. Behind the
+these; those by which a client whose session came up is lent another's blocks, of which it then has none; and those behind a
+turn by which other clients can have the same rows, which are then the client's own still. Behind the
 session the clients that were lost come again and say again what they said, a turn and room for all follow, and each
 Established client must hold what the plain function says (`holding.py`).
 """
@@ -125,6 +126,8 @@ OF_NUMBERS = 1
 OF_CHOICES = 1
 # That others can have its rows, which lie in one block in these sessions, a client makes this many behind a turn.
 OF_ROWS = 1
+# To lend blocks to a client whose session came up takes so many at its first turn.
+OF_LENT = 1
 # So many more are made where eight prefixes or more are touched at once, and rows lie in several blocks, by so many workers:
 # several ask in an order that is theirs.
 OF_BLOCKS = {"news_of_whole_blocks": {1: 5, 2: 40}}
@@ -140,14 +143,15 @@ def sweep(program, library, folder, name, workers):
         if not played.status and (found := asked(played).wrong):
             otherwise.append(f"{found} where request {number} is refused")
     turns, clients = refusals.lines.count("turn"), len(tomllib.loads(refusals.text)["client"])
-    of_blocks = OF_BLOCKS.get(name, {}).get(workers, 0)
+    begun = sum(line.startswith("open ") for line in refusals.lines)
+    more = OF_LENT * begun + OF_BLOCKS.get(name, {}).get(workers, 0)
     most = {
         "in a line": number,
         "by status 3": number,
         "nowhere, by the words": READING,
         "nowhere, at octets": OF_NUMBERS * sum(line.startswith("octets ") for line in refusals.lines),
-        "nowhere, at turn": (OF_CHOICES + OF_ROWS * clients) * turns + of_blocks,
-        "nowhere, by a thread": (OF_A_THREAD + OF_CHOICES * workers + OF_ROWS * clients) * turns + of_blocks,
+        "nowhere, at turn": (OF_CHOICES + OF_ROWS * clients) * turns + more,
+        "nowhere, by a thread": (OF_A_THREAD + OF_CHOICES * workers + OF_ROWS * clients) * turns + more,
     }
     wrong = [f"{count} shown {kind}" for kind, count in kinds.items() if count > most.get(kind, 0)] + otherwise
     told = ", ".join(f"{count} {kind}" for kind, count in sorted(kinds.items()))

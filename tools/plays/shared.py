@@ -1,11 +1,11 @@
-"""Plays random sessions to a built rs_replay by rules that all members use, by the same rules written out in the list of each, and by
-these behind a rule that matches no route.
+"""Plays random sessions to a built rs_replay by rules that all members use, by the same rules written out in the list of each, by
+others in each list, and by these behind a rule that matches no route.
 
 play.py shared PROGRAM [CASES [SEED]]
 
-What is due to a member serves the others that `use` the same rules, and one that has rules of its own is decided by itself: what
-is written must be the same. Where each rule of a list asks for a community, marks tell of most routes that none matches: behind
-a rule that asks for something else each is asked, and the same must be written. The rules are the export rules of
+What is due to a member serves the others that `use` the same rules, and those with rules of their own where each of these asks
+for a community and marks tell that a route has none: what is written must be the same. Behind a rule that asks for something
+else each rule is asked, and each member decided by itself, and the same must be written. The rules are the export rules of
 examples/exchange.toml, which name the receiver, or some of them, with the last one, which asks for nothing, or without it.
 Members announce and withdraw prefixes that fill blocks of rows, of which some have communities by which these rules tell members
 apart, or others; some take little, and some are lost. Each session is played by 1 and by 3 workers.
@@ -37,16 +37,20 @@ def example_rules():
     return re.findall(r"^    (\{.*\}),$", text, re.M)
 
 
-def configuration(members, rules, are_shared):
-    """The members with these export rules, which all use, or each has."""
-    own = ['{ use = "actions" }'] if are_shared else rules
+def configuration(lists, used=()):
+    """Members with these lists of export rules, and the rules that they use."""
     text = TOP
-    for place in range(members):
+    for place, own in enumerate(lists):
         text += f'\n[[client]]\nname = "m{place}"\nas = {FIRST + place}\nlisten = "127.0.0.1:{17901 + place}"\npeer = "{ipaddress.ip_address(ADDRESS + place)}"\n'
         text += f"export = [{', '.join(own)}]\n"
-    if are_shared:
-        text += f'\n[[rules]]\nname = "actions"\nrules = [{", ".join(rules)}]\n'
+    if used:
+        text += f'\n[[rules]]\nname = "actions"\nrules = [{", ".join(used)}]\n'
     return text
+
+
+def behind(lists):
+    """These lists behind a rule that matches no route."""
+    return [[MATCHES_NOTHING, *own] for own in lists]
 
 
 def tagged(draw, numbers):
@@ -108,18 +112,34 @@ def chosen_rules(draw):
     return draw.choice([rules, some + rules[-1:], some or rules[:1]])
 
 
+def lists_apart(draw, members):
+    """For each member some of the rules that ask for a community."""
+    rules = example_rules()[:-1]
+    return [[it for it in rules if draw.random() < 0.5] or [draw.choice(rules)] for _ in range(members)]
+
+
 def differs(program, draw):
     """What is wrong in one session, or None."""
     members, rules = draw.randrange(3, 8), chosen_rules(draw)
-    lines = session(draw, members)
-    alone = written(program, configuration(members, rules, False), lines, 1)
-    if alone[0] != 0 or alone[1]:
-        return f"status {alone[0]}: {alone[1]}"
-    for workers in (1, 3):
-        if written(program, configuration(members, rules, True), lines, workers) != alone:
-            return f"by {workers} workers otherwise where all use the rules: {' '.join(rules)}\n" + "\n".join(lines)
-    if written(program, configuration(members, [MATCHES_NOTHING, *rules], False), lines, 1) != alone:
-        return f"otherwise where each rule is asked: {' '.join(rules)}\n" + "\n".join(lines)
+    lines, alike, apart = session(draw, members), [rules] * members, lists_apart(draw, members)
+    plays = [
+        (configuration(alike), 1, "where each has the rules"),
+        (configuration([['{ use = "actions" }']] * members, rules), 1, "where all use the rules"),
+        (configuration([['{ use = "actions" }']] * members, rules), 3, "by 3 workers where all use the rules"),
+        (configuration(alike), 3, "by 3 workers where each has the rules"),
+        (configuration(behind(alike)), 1, "where each rule is asked"),
+    ], [
+        (configuration(apart), 1, "where each has others"),
+        (configuration(apart), 3, "by 3 workers where each has others"),
+        (configuration(behind(apart)), 1, "where each of others is asked"),
+    ]
+    for (text, workers, _), *others in plays:
+        first = written(program, text, lines, workers)
+        if first[0] != 0 or first[1]:
+            return f"status {first[0]}: {first[1]}"
+        for text, workers, how in others:
+            if written(program, text, lines, workers) != first:
+                return f"otherwise {how}:\n{text}\n" + "\n".join(lines)
     return None
 
 
