@@ -9,9 +9,9 @@ one request of READING; those for a number that octets turn out not to need, sin
 those by which a thread is started for a turn by 2 workers, which is then done on one; those of a turn for what serves other
 clients too, choices, what rules left of routes, and what is due alike with the blocks made of it, which is then made anew for
 these; those by which a client whose session came up is lent another's blocks, of which it then has none; and those behind a
-turn by which other clients can have the same rows, which are then the client's own still. Behind the
-session the clients that were lost come again and say again what they said, a turn and room for all follow, and each
-Established client must hold what the plain function says (`holding.py`).
+turn by which other clients can have the same rows, which are then the client's own still. Behind the session the clients that
+were lost come again and say again what they said, a turn and room for all follow, and each Established client must hold what
+the plain function says (`holding.py`).
 """
 import collections
 import pathlib

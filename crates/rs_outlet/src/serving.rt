@@ -1,4 +1,5 @@
-//! News to a client, as far as that is known by what was decided for another one: in pieces, which both have.
+//! News to a client whose rows have nothing where it was touched: by what was decided for another one, in pieces that both have,
+//! and by the tables where that tells nothing.
 
 ghost use Rattle.std.specs.Prelude.{◌≡◌, ◌<◌, ◌≤◌, ◌++◌, None, Some, nat_eq, length, map, take, IfOk, IfSome, IsTrue, OnOk};
 ghost use Rattle.std.specs.List.{IsDistinct};

@@ -34,8 +34,8 @@ HaveSameExports t c d = (policy_of t.settings c).export ≡ (policy_of t.setting
 abbrev pub AreAlikeForAll : Held → ℕ → List (ℕ × List Attribute) → Type 0
 AreAlikeForAll t c holders = All (λ h. ReceiversAreAlike t.settings c h.1) holders
 
--- what a change has is due to each client that has the export rules of this one and holds no route for its prefix. There is one that
--- does so, to which the routes of the holders go as to all that have these rules
+-- what a change has is due to each client that has the export rules of this one and holds no route for its prefix. There is such a
+-- client, the one for which it was decided; to all with these rules the holders' routes go as they do to it
 pub record IsDueAlike (t : Held) (ins : AdjIns) (c : ℕ) (speech : Speech) (it : (ℕ × Prefix) × Option (List Attribute)) : Type 0 where
   pub placed : number_of ins it.0.1 ≡ Some it.0.0
   pub due : (d : ℕ) → HaveSameExports t c d → t.held d it.0.1 ≡ None → due_to t d speech it.0.1 ≡ it.1
