@@ -147,6 +147,14 @@ impl Rows {
         self.used += filled.news.len();
     }
 
+    /// Whether the blocks that a turn wrote are better shared later.
+    pub(crate) fn puts_off(&mut self) -> bool
+        ensures rows { self.new.rows.items ≡ self.old.rows.items }
+        ensures used { self.new.used ≡ self.old.used }
+    {
+        self.rows.puts_off()
+    }
+
     /// Where another client has the same rows in a block that a turn wrote, both have one copy.
     pub(crate) fn adopt(&mut self, other: &Rows)
         ensures rows { self.new.rows.items ≡ self.old.rows.items }

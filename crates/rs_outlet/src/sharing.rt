@@ -5,6 +5,14 @@ ghost use Rattle.std.specs.Prelude.{◌≡◌};
 use crate::outlet::Outlet;
 
 impl Outlet {
+    /// Whether the blocks that the last turn wrote are better shared later: it wrote few rows of each of many, and the next
+    /// turns may well write the same blocks.
+    pub fn puts_off_sharing(&mut self) -> bool
+        ensures { self.new ≡ self.old }
+    {
+        self.rows.puts_off()
+    }
+
     /// Where another outlet has the same rows in a block that turns wrote, both have one copy of it. It takes no memory.
     pub fn adopt(&mut self, other: &Outlet)
         ensures { self.new ≡ self.old }

@@ -9,6 +9,7 @@ ghost use Rattle.rs_rows.specs.Places.{lent_row};
 use crate::block::{Block, ROWS};
 use crate::part::Part;
 use crate::place::Lent;
+use crate::spread::Spread;
 use crate::taken::Taken;
 use rs_attrs::Attrs;
 use rs_octets::Prefix;
@@ -33,6 +34,8 @@ pub struct Blocks {
     parts: Vec<Part>,
     /// The blocks that were prepared since they were shared last.
     prepared: Vec<u32>,
+    /// How far apart the rows lie that were prepared of late.
+    spread: Spread,
 }
 
 impl Model for Blocks {
@@ -58,6 +61,7 @@ impl Blocks {
             alloc,
             parts: Vec::new(alloc),
             prepared: Vec::new(alloc),
+            spread: Spread::none(),
         }
     }
 
@@ -136,6 +140,7 @@ impl Blocks {
         ensures kept { (n : ℕ) → IsPrepared self.old.prepared n → IsPrepared self.new.prepared n }
     {
         let place = number as usize / ROWS;
+        self.spread.note(place);
         if self.parts[place].can_be_written() {
             return Ok(());
         }
@@ -171,6 +176,16 @@ impl Blocks {
         ensures kept { (n : ℕ) → n / 16 ≢ place → IsPrepared self.old.prepared n → IsPrepared self.new.prepared n }
     {
         self.parts[place as usize] = Part::Shared(block);
+    }
+
+    /// Whether what was prepared since this was asked last is better shared later: its rows lie far apart, so that the same
+    /// blocks may be written soon again.
+    pub fn puts_off(&mut self) -> bool
+        ensures { self.new.items ≡ self.old.items }
+    {
+        let is_wide = self.spread.is_wide();
+        self.spread = Spread::none();
+        is_wide
     }
 
     /// Where another client has the rows of a block that was prepared, its block takes this one's place.

@@ -9,7 +9,8 @@
 //!   has it.
 //! - `taken` is what was taken out of a row.
 //! - `blocks` has the calls: rows are read by number; before one is written its block is prepared, which takes memory;
-//!   and blocks that were prepared are shared with others, where those have the same rows.
+//!   and blocks that were prepared are shared with others, where those have the same rows. `spread` tells when that is better
+//!   left for later.
 #![tactic(auto)]
 
 mod block;
@@ -18,6 +19,7 @@ mod cell;
 mod draft;
 mod part;
 mod place;
+mod spread;
 mod taken;
 
 pub use block::{Block, MOST_OF_BLOCK, ROWS};

@@ -41,11 +41,15 @@ fn adopt_behind(outlets: &mut [Outlet], k: usize)
     adopt_from(&mut front[k], behind, 0, NEAR);
 }
 
-/// The outlet at a place has one copy with its neighbours of rows that its turn wrote, where they have the same.
+/// The outlet at a place has one copy with its neighbours of rows that its turns wrote, where they have the same. It waits for a
+/// turn that doesn't write far and wide, as a turn without anything to decide.
 pub(crate) fn share_at(outlets: &mut [Outlet], k: usize)
     requires { k < length outlets.old }
     ensures { outlets.new ≡ outlets.old }
 {
+    if outlets[k].puts_off_sharing() {
+        return;
+    }
     adopt_before(outlets, k);
     adopt_behind(outlets, k);
     outlets[k].settle();

@@ -4,8 +4,8 @@ use super::alike::{
     SETS, STRIPPED, announce, attrs, have_owners, host_of, turn_three, turned, turned_beside,
     waiting,
 };
-use super::{CLIENT, Exchange, SENDER, drain, let_go, prefix, some};
-use crate::common::equals;
+use super::{CLIENT, Exchange, SENDER, decided, drain, let_go, prefix, some};
+use crate::common::{equals, is_of};
 use rs_attrs::Attrs;
 use rs_outlet::Outlet;
 use std::process::Abort;
@@ -62,6 +62,37 @@ fn shared_rows_are_written_apart(rt: HostRuntime) {
     equals(&rt, host_of(&rt, &exchange, &first), u32::from(SETS));
     equals(&rt, host_of(&rt, &exchange, &alike), 0);
     let_go(exchange, first);
+}
+
+/// Of how many blocks a turn writes so many rows each, and whether their blocks are shared later.
+static APART: [(u32, u32, bool); 5] = [
+    (15, 1, false),
+    (16, 1, true),
+    (16, 3, true),
+    (16, 4, false),
+    (16, 16, false),
+];
+
+/// A turn that writes few rows of each of many blocks has them shared later. The next one that writes nothing doesn't.
+#[test]
+fn rows_that_lie_far_apart_are_shared_later(rt: HostRuntime) {
+    for (blocks, rows, want) in &APART {
+        let (mut exchange, mut outlet) = decided(&rt, rt.alloc(), 256);
+        is_of(&rt, outlet.puts_off_sharing(), false, &"a whole table");
+        outlet.settle();
+        let changed = attrs(&rt, exchange.alloc, SETS, 3);
+        for block in 0..*blocks {
+            for row in 0..*rows {
+                let n = block * 16 + row;
+                exchange.announce(&rt, n, &changed);
+                exchange.touch(&rt, &mut outlet, n..n + 1, 1);
+            }
+        }
+        exchange.decides(&rt, &mut outlet, some((blocks * rows) as usize));
+        is_of(&rt, outlet.puts_off_sharing(), *want, &(blocks, rows));
+        is_of(&rt, outlet.puts_off_sharing(), false, &(blocks, rows));
+        let_go(exchange, outlet);
+    }
 }
 
 /// Both outlets have one copy of the rows that are the same.

@@ -15,8 +15,7 @@ index_mut-requires c =
 
 pub returns-then-can_be_written-clause-prepared : goal.returns-then-can_be_written-clause-prepared
 returns-then-can_be_written-clause-prepared c =
-    let there = own_there c.self.inside.parts.items (c.args.number / 16) c.index.result.now (block_below c.self.inside.parts.items _ c.args.number c.self.view_is c.requires) c.index.ensures (sym c.can_be_written.ensures ∙ c.if-can_be_written.true) in
-    subst (λ (v : Listed). IsPrepared v.prepared c.args.number) c.self.view_is there
+    own_there c.self.inside.parts.items (c.args.number / 16) c.index.result.now (block_below c.self.inside.parts.items _ c.args.number c.self.view_is c.requires) c.index.ensures (sym c.can_be_written.ensures ∙ c.if-can_be_written.true)
 
 pub returns-in_err-open-clause-rows : goal.returns-in_err-open-clause-rows
 returns-in_err-open-clause-rows c =
