@@ -1,5 +1,6 @@
 -- What isn't marked isn't there: no number of a path, and no community.
-use Rattle.std.proofs.Common.{◌≡◌, ◌/◌, ◌%◌, ◌^◌, ◌==◌, ◌&&◌, ◌||◌, ℕ, Bool, true, false, List, [], ◌∷◌, Option, Some, None, bit_and, refl, sym, ap, subst, ◌∙◌, arith}
+use Rattle.std.proofs.Common.{◌≡◌, ◌/◌, ◌%◌, ◌^◌, ◌==◌, ◌&&◌, ◌||◌, ℕ, Bool, true, false, List, [], ◌∷◌, Option, Some, None, bit_and, not, refl, sym, ap, subst, ◌∙◌, arith}
+use Rattle.std.specs.Bool.{IsTrue}
 use Rattle.std.specs.Int.{bit_at}
 use Rattle.std.specs.Int.Bits.{bit_or}
 use Rattle.std.specs.List.{list_any}
@@ -12,7 +13,8 @@ use Rattle.rs_attrs.specs.Patterns.{is_like, is_like_large, part_is}
 use Rattle.rs_attrs.specs.HeadLaws.{flag_back}
 use Rattle.rs_attrs.proofs.HeadWords.{same_bit}
 use Rattle.rs_attrs.specs.Marks.{mark_of, AreNumbersMarked, AreMarked, AreLargeMarked, IsPathMarked, KeepsMarks}
-use Rattle.rs_attrs.specs.Tagged.{part_marks}
+use Rattle.rs_attrs.specs.Tagged.{has_first, has_part, part_marks}
+use Rattle.rs_attrs.specs.declared.asked.Firsts.{Firsts}
 use Rattle.rs_attrs.specs.declared.patterns.CommunityPattern.{CommunityPattern}
 use Rattle.rs_attrs.specs.declared.patterns.LargeCommunityPattern.{LargeCommunityPattern}
 use Rattle.rs_attrs.specs.declared.patterns.LargeCommunity.{LargeCommunity}
@@ -115,3 +117,34 @@ none_like_large p one asked (c ∷ cs) none marked asks =
 -- what a part asks for that is given alone
 pub given_alone : (part : Option ℕ) (h : ℕ) → part ≡ Some h → KeepsMarks (part_marks part) (mark_of h)
 given_alone part h is n marked = subst (λ o. has_flag (mark_of n) (part_marks o) ≡ true) is marked
+
+-- ---- what is asked for by first parts is nowhere among others
+
+part_unasked : (part : Option ℕ) (f : Firsts) (n : ℕ) (b : Bool) → f.all ≡ false → has_part f part ≡ true → has_first f n ≡ false → part_is part n ≡ b → b ≡ false
+part_unasked part f n false all asked none is = refl
+part_unasked None f n true all asked none is = sym asked ∙ all
+part_unasked (Some h) f n true all asked none is =
+    let same : n ≡ h = grind (arith, nat_tests, is) in
+    sym (subst (λ n. has_first f n ≡ true) (sym same) asked) ∙ none
+
+neither : (a b : Bool) → (a || b) ≡ false → (a ≡ false) × (b ≡ false)
+neither true b e = absurd (cc e)
+neither false b e = (refl, e)
+
+pub none_asked : (f : Firsts) (p : CommunityPattern) (cs : List ℕ) → f.all ≡ false → has_part f p.high ≡ true → list_any (λ c. has_first f (c / 65536)) cs ≡ false → list_any (is_like p) cs ≡ false
+none_asked f p [] all asked none = refl
+none_asked f p (c ∷ cs) all asked none =
+    let both = neither (has_first f (c / 65536)) (list_any (λ c. has_first f (c / 65536)) cs) none in
+    ap (λ b. b || list_any (is_like p) cs) (unlike p c (is_like p c) (part_unasked p.high f (c / 65536) (part_is p.high (c / 65536)) all asked both.0 refl) refl)
+    ∙ none_asked f p cs all asked both.1
+
+pub none_asked_large : (f : Firsts) (p : LargeCommunityPattern) (cs : List LargeCommunity) → f.all ≡ false → has_part f p.global ≡ true → list_any (λ (c : LargeCommunity). has_first f c.global) cs ≡ false → list_any (is_like_large p) cs ≡ false
+none_asked_large f p [] all asked none = refl
+none_asked_large f p (c ∷ cs) all asked none =
+    let both = neither (has_first f c.global) (list_any (λ (c : LargeCommunity). has_first f c.global) cs) none in
+    ap (λ b. b || list_any (is_like_large p) cs) (unlike_large p c (is_like_large p c) (part_unasked p.global f c.global (part_is p.global c.global) all asked both.0 refl) refl)
+    ∙ none_asked_large f p cs all asked both.1
+
+pub denied : (b : Bool) → IsTrue (not b) → b ≡ false
+denied true is = absurd (cc is)
+denied false is = refl

@@ -1,16 +1,18 @@
 //! What the attributes of a route say. No call takes memory.
 
-ghost use Rattle.std.specs.Prelude.{◌≡◌, ◌≤◌, ◌<◌, ◌^◌, [], IfSome, IsTrue, length, is_some, option_map, sum_by, true, not, unwrap_or};
+ghost use Rattle.std.specs.Prelude.{◌≡◌, ◌≤◌, ◌<◌, ◌^◌, ◌/◌, [], IfSome, IsTrue, length, is_some, option_map, sum_by, true, not, unwrap_or};
 ghost use Rattle.std.specs.List.{list_any};
 ghost use Rattle.std.specs.Int.{w32, from_be_bytes};
 ghost use Rattle.rs_attrs.specs.Held.{attributes_in, values_size};
 ghost use Rattle.rs_attrs.specs.Effects.{lacks_mandatory, missing_of};
 ghost use Rattle.rs_attrs.specs.Meaning.{get};
 ghost use Rattle.rs_attrs.specs.Paths.{segment_length};
-ghost use Rattle.rs_attrs.specs.Tagged.{LacksAsked};
+ghost use Rattle.rs_attrs.specs.declared.patterns.LargeCommunity.{LargeCommunity};
+ghost use Rattle.rs_attrs.specs.Tagged.{LacksAsked, LacksFirsts, LacksGlobals, has_first};
 ghost use Rattle.rs_attrs.specs.Writing.{IsLegal};
 ghost use Rattle.rs_attrs.specs.Getters.{attribute_at, IsWellFormedAs, value_of, origin_of, path_of, next_hop_of, med_of, communities_of, large_communities_of, path_length_of, path_has_of, origin_as_of, tagged, large_tagged};
 
+use crate::asked::{AskedTags, Firsts};
 use crate::attrs::Attrs;
 use crate::heads::Head;
 use crate::marks::{TagMarks, mark_of};
@@ -227,11 +229,52 @@ impl Attrs {
         Tags::of(communities, large, self.tag_marks)
     }
 
-    /// Whether the marks tell that no community and no large one is as these ask: none has a first part that is asked for.
-    pub fn lacks(&self, asked: TagMarks) -> bool
-        ensures { IsTrue result → LacksAsked asked self.now }
+    /// Whether a community has one of these first parts.
+    fn has_first_of(&self, firsts: &Firsts) -> bool
+        ensures { result ≡ list_any (λ c. has_first firsts.now (c / 65536)) (communities_of self.now) }
     {
-        self.tag_marks.communities & asked.communities == 0
-            && self.tag_marks.large & asked.large == 0
+        self.communities()
+            .any(|community| firsts.has(community / 65536))
+    }
+
+    /// Whether a large community has one of these Global Administrators.
+    fn has_global_of(&self, globals: &Firsts) -> bool
+        ensures { result ≡ list_any (λ (c : LargeCommunity). has_first globals.now c.global) (large_communities_of self.now) }
+    {
+        self.large_communities()
+            .any(|community| globals.has(community.global))
+    }
+
+    /// Whether no community has a first part that is asked for. Marks tell of most routes; else each is looked at.
+    fn lacks_firsts(&self, asked: &AskedTags) -> bool
+        ensures { IsTrue result → LacksFirsts asked.now self.now }
+    {
+        if self.tag_marks.communities & asked.marks.communities == 0 {
+            return true;
+        }
+        if asked.firsts.all {
+            return false;
+        }
+        !self.has_first_of(&asked.firsts)
+    }
+
+    /// The same of large ones and their Global Administrators.
+    fn lacks_globals(&self, asked: &AskedTags) -> bool
+        ensures { IsTrue result → LacksGlobals asked.now self.now }
+    {
+        if self.tag_marks.large & asked.marks.large == 0 {
+            return true;
+        }
+        if asked.globals.all {
+            return false;
+        }
+        !self.has_global_of(&asked.globals)
+    }
+
+    /// Whether it is told by first parts that no community and no large one is as these ask.
+    pub fn lacks(&self, asked: &AskedTags) -> bool
+        ensures { IsTrue result → LacksAsked asked.now self.now }
+    {
+        self.lacks_firsts(asked) && self.lacks_globals(asked)
     }
 }

@@ -11,7 +11,8 @@
 //! - `faults` says what is wrong with a field, for the UPDATE and for the log.
 //! - `attrs` says how attributes lie in memory, `heads` what of each is not its value; `getters` and
 //!   `stripping` ask and change them, by the communities that are like `patterns`; `tags` are a route's
-//!   communities, found once for many tests; by `marks` most numbers that a path lacks are known, and most communities that a route does.
+//!   communities, found once for many tests; by `marks` most numbers that a path lacks are known, and most communities that a route
+//!   does; `asked` is which communities rules ask for.
 //! - `segments` takes a path apart, for AS numbers in two octets and in four.
 //! - `writing` and its folder: `parts` is the list of what is to be written, by rising type, which
 //!   `size` counts and `write_into` writes; `head` spells what stands before a value, `narrow` the
@@ -21,6 +22,7 @@
 //! The tests stand in `rs_tests`, in `src/attrs`.
 #![tactic(auto)]
 
+mod asked;
 mod attrs;
 mod faults;
 mod getters;
@@ -37,6 +39,7 @@ mod tags;
 mod types;
 mod writing;
 
+pub use asked::AskedTags;
 pub use attrs::Attrs;
 pub use faults::{AttributeFault, Cause, Faulted, Faults};
 pub use getters::AttributeRef;
@@ -44,7 +47,6 @@ pub use laws::{
     attributes_are_legal, changes_overlay, fields_are_read, fields_mean_one, paths_are_read,
     slices_are_octets, spelling_reads_back,
 };
-pub use marks::TagMarks;
 pub use mode::Mode;
 pub use patterns::{CommunityPattern, LargeCommunityPattern};
 pub use reading::{Parsed, read};

@@ -5,7 +5,7 @@ ghost use Rattle.rs_attrs.specs.Marks.{AreLargeMarked, AreMarked, AreNumbersMark
 ghost use Rattle.rs_attrs.specs.Marks as marks;
 ghost use Rattle.rs_attrs.specs.Patterns.{large_communities_in};
 ghost use Rattle.rs_attrs.specs.Paths.{quads};
-ghost use Rattle.rs_attrs.specs.Tagged.{AsksFor, AsksForLarge, KeepsTagMarks, part_marks};
+ghost use Rattle.rs_attrs.specs.Tagged.{KeepsTagMarks, part_marks};
 
 use crate::patterns::{CommunityPattern, LargeCommunities, LargeCommunityPattern};
 use crate::segments::{Numbers, Segments};
@@ -15,8 +15,8 @@ const ALL: u32 = 0xffff_ffff;
 
 /// Marks of communities by their first 16 bits (RFC 1997), and of large ones by their Global Administrators (RFC 8092): of
 /// those that a route has, or of those that rules ask for.
-#[derive(Clone, Copy, Debug, PartialEq, Eq)]
-pub struct TagMarks {
+#[derive(Clone, Copy, Debug)]
+pub(crate) struct TagMarks {
     pub(crate) communities: u32,
     pub(crate) large: u32,
 }
@@ -74,7 +74,7 @@ fn global_marks_of(communities: &[u8]) -> u32
 }
 
 /// The marks of a part that is given; all, where it may be any.
-fn part_marks(part: Option<u32>) -> u32
+pub(crate) fn part_marks(part: Option<u32>) -> u32
     ensures { result ≡ part_marks part }
 {
     match part {
@@ -96,7 +96,7 @@ impl TagMarks {
     }
 
     /// Nothing is asked for.
-    pub fn none() -> TagMarks {
+    pub(crate) fn none() -> TagMarks {
         TagMarks {
             communities: 0,
             large: 0,
@@ -104,10 +104,9 @@ impl TagMarks {
     }
 
     /// These are asked for too.
-    #[must_use]
-    pub fn and(self, pattern: &CommunityPattern) -> TagMarks
+    pub(crate) fn and(self, pattern: &CommunityPattern) -> TagMarks
         ensures kept { KeepsTagMarks self result }
-        ensures asked { AsksFor result pattern.now }
+        ensures asked { KeepsMarks (part_marks pattern.now.high) result.communities }
     {
         TagMarks {
             communities: self.communities | part_marks(pattern.high),
@@ -116,10 +115,9 @@ impl TagMarks {
     }
 
     /// These large ones are asked for too.
-    #[must_use]
-    pub fn and_large(self, pattern: &LargeCommunityPattern) -> TagMarks
+    pub(crate) fn and_large(self, pattern: &LargeCommunityPattern) -> TagMarks
         ensures kept { KeepsTagMarks self result }
-        ensures asked { AsksForLarge result pattern.now }
+        ensures asked { KeepsMarks (part_marks pattern.now.global) result.large }
     {
         TagMarks {
             communities: self.communities,

@@ -19,7 +19,7 @@ use crate::chosen::choose_once;
 use crate::memo::{Judged, recall};
 use crate::stripped::Stripped;
 use rs_adjin::{AdjIns, Holder, Holders};
-use rs_attrs::{Attrs, Strip, TagMarks, attributes_are_legal};
+use rs_attrs::{AskedTags, Attrs, Strip, attributes_are_legal};
 use rs_decision::Rank;
 use rs_octets::Prefix;
 use rs_packer::fits;
@@ -37,7 +37,9 @@ pub(crate) struct Sources<'a> {
     /// The client's export rules judge routes with the same attributes and note alike.
     pub(crate) alike: bool,
     /// What its senders' import lists pass plainly the client has as it is, where it has none of the communities that these ask for.
-    pub(crate) asked: Option<TagMarks>,
+    pub(crate) asked: Option<AskedTags>,
+    /// The communities by which its export rules name the receiver: where a route has none of them, it doesn't count who that is.
+    pub(crate) receivers: AskedTags,
 }
 
 /// What one decision of a turn leaves to the next: room for ranks, what became of the last route, and choices that serve
@@ -190,7 +192,7 @@ fn pass_on<'a>(
     ensures passed { IfOk result (λ passed. option_map attributes_passed passed ≡ passed_on (arc_value holder.now.attrs.now) (verdict sources.now.config.now holder.now.client sources.now.client prefix.now (arc_value holder.now.attrs.now))) }
     ensures memo { IsMemo sources.now.config.now sources.now.client memo.new }
 {
-    if let Some(asked) = sources.asked
+    if let Some(asked) = &sources.asked
         && is_plain_note(holder.note)
         && holder.attrs.lacks(asked)
     {

@@ -10,6 +10,7 @@ ghost use Rattle.std.specs.Arc.{arc_value};
 ghost use Rattle.rs_attrs.specs.Meaning.{Attribute};
 ghost use Rattle.rs_octets.specs.Prefixes.{Prefix};
 ghost use Rattle.rs_adjin.specs.AdjIns.{number_of};
+ghost use Rattle.rs_policy.specs.Alike.{ReceiversAreAlike};
 ghost use Rattle.rs_outlet.specs.declared.answers.Speech.{Speech};
 ghost use Rattle.rs_outlet.specs.Decided.Due.{due_to};
 ghost use Rattle.rs_outlet.specs.Decided.HeldBy.{held_by, AreOfOneServer};
@@ -25,7 +26,7 @@ use crate::filled::Whole;
 use crate::news::News;
 use crate::table::Rows;
 use rs_adjin::{Holder, Holders};
-use rs_attrs::{Attrs, TagMarks};
+use rs_attrs::{AskedTags, Attrs};
 use rs_policy::{is_plain_note, may_ask_receiver};
 use rs_rows::ROWS;
 use std::alloc::AllocError;
@@ -35,8 +36,8 @@ use std::sync::Arc;
 /// that is to serve.
 #[derive(Clone, Copy)]
 pub(crate) struct Asked {
-    pub(crate) first: TagMarks,
-    pub(crate) next: TagMarks,
+    pub(crate) first: AskedTags,
+    pub(crate) next: AskedTags,
 }
 
 impl Asked {
@@ -46,8 +47,8 @@ impl Asked {
         ensures { IsTrue result → IsPlainForBoth self ((holder.now.client, arc_value holder.now.attrs.now), holder.now.note) }
     {
         is_plain_note(holder.note)
-            && holder.attrs.lacks(self.first)
-            && holder.attrs.lacks(self.next)
+            && holder.attrs.lacks(&self.first)
+            && holder.attrs.lacks(&self.next)
     }
 
     /// Whether all of these routes do.
@@ -211,13 +212,22 @@ fn shared(attrs: Option<&Arc<Attrs>>) -> Result<Option<Arc<Attrs>>, AllocError>
     }
 }
 
-/// Whether it may count to which client with the export rules of this one a route of these holders goes.
+/// Whether it may count to which client with the export rules of this one a holder's route goes. Mostly it is told at once.
+fn may_ask(sources: &Sources<'_>, holder: &Holder<'_>) -> bool
+    requires server { AreOfOneServer sources.now }
+    ensures { result ≡ false → ReceiversAreAlike sources.now.config.now sources.now.client (arc_value holder.now.attrs.now) }
+{
+    !holder.attrs.lacks(&sources.receivers)
+        && may_ask_receiver(sources.config, sources.client, holder.attrs)
+}
+
+/// Whether it may count of a route of these holders.
 fn may_ask_receivers(sources: &Sources<'_>, holders: Holders<'_>) -> bool
-    requires { sources.now.client < length sources.now.config.now.clients }
+    requires server { AreOfOneServer sources.now }
     ensures { result ≡ false → AreAlikeForAll (held_by sources.now) sources.now.client (map (λ h. h.0) holders.entry) }
 {
     for holder in holders {
-        if may_ask_receiver(sources.config, sources.client, holder.attrs) {
+        if may_ask(sources, &holder) {
             return true;
         }
     }

@@ -32,7 +32,7 @@ use rs_adjin::AdjIns;
 use rs_attrs::Mode;
 use rs_octets::Prefix;
 use rs_open::{Limit, ServerOpen, Short, short_size, write_open};
-use rs_policy::{Config, asked_by_exports, judges_prefixes_alike};
+use rs_policy::{Config, asked_by_exports, asked_of_receivers, judges_prefixes_alike};
 use std::alloc::{AllocError, Global};
 use std::marker::Model;
 
@@ -284,6 +284,7 @@ impl Outlet {
             client: self.client,
             alike: judges_prefixes_alike(config, self.client),
             asked: asked_by_exports(config, self.client),
+            receivers: asked_of_receivers(config, self.client),
         };
         match self.turn_up(speech, &sources, handover) {
             Ok(turned) => Ok(turned),

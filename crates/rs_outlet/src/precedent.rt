@@ -19,7 +19,7 @@ use crate::deciding::Sources;
 use crate::filled::{Filled, Whole};
 use crate::known::{Asked, Known};
 use crate::table::Rows;
-use rs_attrs::TagMarks;
+use rs_attrs::AskedTags;
 use rs_rows::{ROWS, lie_together};
 use std::alloc::{AllocError, Global};
 
@@ -29,7 +29,7 @@ use std::alloc::{AllocError, Global};
 pub(crate) struct Precedent {
     client: usize,
     /// What its export rules ask for, as `Sources` has it.
-    asked: Option<TagMarks>,
+    asked: Option<AskedTags>,
     speech: Speech,
     /// At how many prefixes was decided.
     count: usize,

@@ -30,5 +30,5 @@ pub use rules::alike::{judges_alike, judges_prefixes_alike};
 pub use rules::asked::asked_by_exports;
 pub use rules::noting::{import_note, is_plain_note, judge_noted};
 pub use rules::reasons::{Decider, Reasons, reasons_for};
-pub use rules::receivers::may_ask_receiver;
+pub use rules::receivers::{asked_of_receivers, may_ask_receiver};
 pub use rules::verdict::{Fate, Verdict, judge};

@@ -6,7 +6,7 @@ use Rattle.std.specs.List.{All, AllByRecursion}
 use Rattle.rs_octets.specs.Prefixes.{Prefix}
 use Rattle.rs_attrs.specs.Meaning.{Attribute}
 use Rattle.rs_attrs.specs.Tagged.{LacksAsked}
-use Rattle.rs_attrs.specs.declared.marks.TagMarks.{TagMarks}
+use Rattle.rs_attrs.specs.declared.asked.AskedTags.{AskedTags}
 use Rattle.rs_adjin.specs.AdjIns.{number_of}
 use Rattle.rs_adjin.specs.declared.adj_ins.AdjIns.{AdjIns}
 use Rattle.rs_rows.specs.Rows.{Row}
@@ -86,7 +86,7 @@ ServesAt t ins c asked n =
 pub record IsPrecedent (t : Held) (ins : AdjIns) (it : Precedent) : Type 0 where
   pub client : it.client < length t.settings.clients
   pub listed : AreListed t ins it.client it.speech it.changes.items it.wholes.items
-  pub plain : (asked : TagMarks) → it.asked ≡ Some asked → PassesPlainly t.settings it.client asked
+  pub plain : (asked : AskedTags) → it.asked ≡ Some asked → PassesPlainly t.settings it.client asked
 
 -- what one outlet's turn hands over is of these tables and rules
 pub record IsHandover (t : Held) (ins : AdjIns) (it : Handover) : Type 0 where

@@ -1,7 +1,7 @@
 //! Which communities a client's export rules ask for: where a route has none of them, no rule matches it.
 
 ghost use Rattle.std.specs.Prelude.{◌≡◌, ◌<◌, IfSome, length};
-ghost use Rattle.rs_attrs.specs.Tagged.{KeepsTagMarks};
+ghost use Rattle.rs_attrs.specs.Tagged.{KeepsAsked};
 ghost use Rattle.rs_policy.specs.Alike.{PassesPlainly};
 ghost use Rattle.rs_policy.specs.Configuration.{rules_in};
 ghost use Rattle.rs_policy.specs.Unasked.{ArePassedOver, AreAllPassedOver, IsPassedOver};
@@ -9,24 +9,24 @@ ghost use Rattle.rs_policy.specs.Unasked.{ArePassedOver, AreAllPassedOver, IsPas
 use crate::config::Config;
 use crate::config::shared_rules::SharedRules;
 use crate::rules::{Disposition, Item, Rule};
-use rs_attrs::TagMarks;
+use rs_attrs::AskedTags;
 
-/// The marks, and those of the communities that a rule asks for on the way to a client with this AS number; none where it
+/// What is asked for, and the communities for which a rule asks on the way to a client with this AS number; none where it
 /// asks for none.
-fn with_asked(marks: TagMarks, rule: &Rule, to_as: u32) -> Option<TagMarks>
-    ensures kept { IfSome result (KeepsTagMarks marks) }
+fn with_asked(before: AskedTags, rule: &Rule, to_as: u32) -> Option<AskedTags>
+    ensures kept { IfSome result (KeepsAsked before) }
     ensures passed_over { IfSome result (λ asked. IsPassedOver asked to_as rule.now) }
 {
     if let Some(test) = rule.tests.community {
-        return Some(marks.and(&test.pattern_for(to_as)));
+        return Some(before.and(&test.pattern_for(to_as)));
     }
     let test = rule.tests.large_community?;
-    Some(marks.and_large(&test.pattern_for(to_as)))
+    Some(before.and_large(&test.pattern_for(to_as)))
 }
 
 /// The same of some rules, each of which has to ask for one.
-fn with_asked_among(before: TagMarks, rules: &[Rule], to_as: u32) -> Option<TagMarks>
-    ensures kept { IfSome result (KeepsTagMarks before) }
+fn with_asked_among(before: AskedTags, rules: &[Rule], to_as: u32) -> Option<AskedTags>
+    ensures kept { IfSome result (KeepsAsked before) }
     ensures passed_over { IfSome result (λ asked. ArePassedOver asked to_as rules.now) }
 {
     let mut marks = before;
@@ -38,12 +38,12 @@ fn with_asked_among(before: TagMarks, rules: &[Rule], to_as: u32) -> Option<TagM
 
 /// The same of the rules at a place of a client's list.
 fn with_asked_at(
-    marks: TagMarks,
+    marks: AskedTags,
     shared: &[SharedRules],
     item: &Item,
     to_as: u32,
-) -> Option<TagMarks>
-    ensures kept { IfSome result (KeepsTagMarks marks) }
+) -> Option<AskedTags>
+    ensures kept { IfSome result (KeepsAsked marks) }
     ensures passed_over { IfSome result (λ asked. ArePassedOver asked to_as (rules_in shared.now item.now)) }
 {
     match item {
@@ -56,10 +56,10 @@ fn with_asked_at(
 }
 
 /// The same of a client's list.
-fn asked_of(shared: &[SharedRules], items: &[Item], to_as: u32) -> Option<TagMarks>
+fn asked_of(shared: &[SharedRules], items: &[Item], to_as: u32) -> Option<AskedTags>
     ensures { IfSome result (λ asked. AreAllPassedOver asked to_as shared.now items.now) }
 {
-    let mut marks = TagMarks::none();
+    let mut marks = AskedTags::none();
     for item in items {
         marks = with_asked_at(marks, shared, item, to_as)?;
     }
@@ -69,7 +69,7 @@ fn asked_of(shared: &[SharedRules], items: &[Item], to_as: u32) -> Option<TagMar
 /// The marks of the communities that a client's export rules ask for, if each of them asks for one, and what no rule decides is
 /// passed. A route that its sender's import list passes plainly (`is_plain_note`) goes to the client as it is, with no
 /// preference and all communities, where it has none of these (`Attrs::lacks`). It takes no memory.
-pub fn asked_by_exports(config: &Config, to: usize) -> Option<TagMarks>
+pub fn asked_by_exports(config: &Config, to: usize) -> Option<AskedTags>
     requires { to < length config.now.clients }
     ensures { IfSome result (PassesPlainly config.now to) }
 {

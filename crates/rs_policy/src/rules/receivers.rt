@@ -1,17 +1,20 @@
 //! Whether the rules ask who a route goes to: where they name the receiver, its communities tell.
 
-ghost use Rattle.std.specs.Prelude.{◌≡◌, ◌<◌, false, length};
+ghost use Rattle.std.specs.Prelude.{◌≡◌, ◌<◌, List, false, length};
 ghost use Rattle.std.specs.List.{list_any};
 ghost use Rattle.rs_attrs.specs.Getters.{communities_of, large_communities_of, large_tagged, tagged};
+ghost use Rattle.rs_attrs.specs.Meaning.{Attribute};
+ghost use Rattle.rs_attrs.specs.Tagged.{KeepsAsked, LacksAsked};
 ghost use Rattle.rs_policy.specs.Alike.{ReceiversAreAlike};
 ghost use Rattle.rs_policy.specs.Asking.{asks_receiver};
+ghost use Rattle.rs_policy.specs.Unasked.{AreNotAskedOf, AreAllNotAskedOf, IsNotAskedOf, IsNotAskedByLarge, IsNotAskedByShort};
 ghost use Rattle.rs_policy.specs.Configuration.{policy_of, rules_in};
 ghost use Rattle.rs_policy.specs.Documents.{rules_name_peer};
 
 use crate::config::Config;
 use crate::config::shared_rules::SharedRules;
-use crate::rules::{Item, Rule};
-use rs_attrs::{Attrs, Tags};
+use crate::rules::{CommunityTest, Item, LargeCommunityTest, Rule};
+use rs_attrs::{AskedTags, Attrs, Tags};
 
 /// Whether a test of the rules at a place of a client's list names the receiver.
 fn names_receiver_at(shared: &[SharedRules], item: &Item) -> bool
@@ -111,4 +114,84 @@ pub fn may_ask_receiver(config: &Config, to: usize, attrs: &Attrs) -> bool
         tags: attrs.tags(),
     };
     asks_receiver_among(shared, items, &asked)
+}
+
+/// What is asked for, and the communities for which a test asks, if it names the receiver, whoever that is.
+fn with_short(before: AskedTags, test: Option<CommunityTest>) -> AskedTags
+    ensures kept { KeepsAsked before result }
+    ensures unasked { IsNotAskedByShort result test }
+{
+    match test {
+        Some(test) if test.names_peer() => before.and(&test.pattern_for_any()),
+        _ => before,
+    }
+}
+
+/// The same of large communities.
+fn with_large(before: AskedTags, test: Option<LargeCommunityTest>) -> AskedTags
+    ensures kept { KeepsAsked before result }
+    ensures unasked { IsNotAskedByLarge result test }
+{
+    match test {
+        Some(test) if test.names_peer() => before.and_large(&test.pattern_for_any()),
+        _ => before,
+    }
+}
+
+/// The same of all tests of some rules.
+fn with_rules(before: AskedTags, rules: &[Rule]) -> AskedTags
+    ensures kept { KeepsAsked before result }
+    ensures unasked { AreNotAskedOf result rules.now }
+{
+    let mut asked = before;
+    for rule in rules {
+        asked = with_rule(asked, rule);
+    }
+    asked
+}
+
+/// The same of the tests of a rule.
+fn with_rule(before: AskedTags, rule: &Rule) -> AskedTags
+    ensures kept { KeepsAsked before result }
+    ensures unasked { IsNotAskedOf result rule.now }
+{
+    let short = with_short(before, rule.tests.community);
+    with_large(short, rule.tests.large_community)
+}
+
+/// The same of the rules at a place of a client's list.
+fn with_item(before: AskedTags, shared: &[SharedRules], item: &Item) -> AskedTags
+    ensures kept { KeepsAsked before result }
+    ensures unasked { AreNotAskedOf result (rules_in shared.now item.now) }
+{
+    match item {
+        Item::Own(rule) => with_rule(before, rule),
+        Item::Use(place) => match shared.get(*place) {
+            None => before,
+            Some(used) => with_rules(before, &used.rules),
+        },
+    }
+}
+
+/// The same of a client's list.
+fn with_items(shared: &[SharedRules], items: &[Item]) -> AskedTags
+    ensures { AreAllNotAskedOf result shared.now items.now }
+{
+    let mut asked = AskedTags::none();
+    for item in items {
+        asked = with_item(asked, shared, item);
+    }
+    asked
+}
+
+/// The communities by which a client's export rules name the receiver, whoever that is. Where a route has none of these
+/// (`Attrs::lacks`), the same becomes of it on its way to each client that has the same export rules. It takes no memory.
+pub fn asked_of_receivers(config: &Config, to: usize) -> AskedTags
+    requires { to < length config.now.clients }
+    ensures { (m : List Attribute) → LacksAsked result m → ReceiversAreAlike config.now to m }
+{
+    config.is_read();
+    let exports = config.export(to);
+    let (items, shared) = exports.parts();
+    with_items(shared, items)
 }

@@ -117,22 +117,27 @@ fn with_communities(rt: &impl Abort, alloc: Global, octets: &[u8]) -> Attrs {
     attrs(rt, alloc, &field)
 }
 
-/// Attributes of communities, and whether it may count by those rules who a route with them goes to.
-static ASKING: [(&[u8], bool); 7] = [
-    (&[], false),
+/// Attributes of communities, whether it may count by those rules who a route with them goes to, and whether first parts alone tell
+/// that it doesn't.
+static ASKING: [(&[u8], bool, bool); 8] = [
+    (&[], false, true),
     // 64500:1, and 1:64500
-    (&[0xc0, 8, 4, 0xfb, 0xf4, 0, 1], false),
-    (&[0xc0, 8, 4, 0, 1, 0xfb, 0xf4], false),
+    (&[0xc0, 8, 4, 0xfb, 0xf4, 0, 1], false, true),
+    (&[0xc0, 8, 4, 0, 1, 0xfb, 0xf4], false, true),
+    // 32:7, whose first part has the mark of 0
+    (&[0xc0, 8, 4, 0, 32, 0, 7], false, true),
     // 0:64497, a member, and 0:7, none, beside 64500:1
-    (&[0xc0, 8, 4, 0, 0, 0xfb, 0xf1], true),
-    (&[0xc0, 8, 8, 0xfb, 0xf4, 0, 1, 0, 0, 0, 7], true),
+    (&[0xc0, 8, 4, 0, 0, 0xfb, 0xf1], true, false),
+    (&[0xc0, 8, 8, 0xfb, 0xf4, 0, 1, 0, 0, 0, 7], true, false),
     // 64500:0:65551, and 64500:1:65551
     (
         &[0xc0, 32, 12, 0, 0, 0xfb, 0xf4, 0, 0, 0, 0, 0, 1, 0, 0x0f],
         true,
+        false,
     ),
     (
         &[0xc0, 32, 12, 0, 0, 0xfb, 0xf4, 0, 0, 0, 1, 0, 1, 0, 0x0f],
+        false,
         false,
     ),
 ];
@@ -143,11 +148,15 @@ fn it_counts_who_a_route_goes_to_where_a_community_names_a_receiver(rt: HostRunt
     let parts = [TOP, CLIENT, OTHER, uses, ACTIONS];
     let config = read_parts(&rt, rt.alloc(), &parts);
     assert!(&rt; config.clients() > 1);
-    for (octets, want) in &ASKING {
+    let named = asked_of_receivers(&config, 1);
+    // the other client has no export rules
+    let none = asked_of_receivers(&config, 0);
+    for (octets, want, told) in &ASKING {
         let attrs = with_communities(&rt, rt.alloc(), octets);
         is_of(&rt, may_ask_receiver(&config, 1, &attrs), *want, octets);
-        // the other client has no export rules
         is_of(&rt, may_ask_receiver(&config, 0, &attrs), false, octets);
+        is_of(&rt, attrs.lacks(&named), *told, octets);
+        is_of(&rt, attrs.lacks(&none), true, octets);
     }
     let_go(config);
 }
@@ -165,9 +174,29 @@ const OTHERS: &[u8] = &[0xc0, 8, 8, 0xfb, 0xf3, 0, 1, 0xfb, 0xf4, 0, 1];
 /// 64500:1:65551
 const LARGE: &[u8] = &[0xc0, 32, 12, 0, 0, 0xfb, 0xf4, 0, 0, 0, 1, 0, 1, 0, 0x0f];
 
-/// What no rule decides, an export list, and attributes of communities: whether the marks tell of a route with them that the list
+/// 64528:1 and 64532:0:65551, whose first parts have the marks of 64496 and of 64500
+const MARKED: &[u8] = &[
+    0xc0, 8, 4, 0xfc, 0x10, 0, 1, 0xc0, 32, 12, 0, 0, 0xfc, 0x14, 0, 0, 0, 0, 0, 1, 0, 0x0f,
+];
+
+/// Rules that ask for communities of eight first parts; with one more, of a ninth, first parts are told by their marks alone.
+const EIGHT: &str = concat!(
+    "{ community = \"64496:1\", action = \"drop\" }, { community = \"1:1\", action = \"drop\" }, ",
+    "{ community = \"2:1\", action = \"drop\" }, { community = \"3:1\", action = \"drop\" }, ",
+    "{ community = \"4:1\", action = \"drop\" }, { community = \"5:1\", action = \"drop\" }, ",
+    "{ community = \"6:1\", action = \"drop\" }, { community = \"6:2\", action = \"drop\" }, { community = \"7:1\", action = \"drop\" }",
+);
+
+const NINE: &str = concat!(
+    "{ community = \"64496:1\", action = \"drop\" }, { community = \"1:1\", action = \"drop\" }, ",
+    "{ community = \"2:1\", action = \"drop\" }, { community = \"3:1\", action = \"drop\" }, ",
+    "{ community = \"4:1\", action = \"drop\" }, { community = \"5:1\", action = \"drop\" }, ",
+    "{ community = \"6:1\", action = \"drop\" }, { community = \"7:1\", action = \"drop\" }, { community = \"8:1\", action = \"drop\" }",
+);
+
+/// What no rule decides, an export list, and attributes of communities: whether first parts tell of a route with them that the list
 /// asks for none; None where a rule asks for something else, or what no rule decides is dropped.
-static UNASKED: [(&str, &str, &[u8], Option<bool>); 13] = [
+static UNASKED: [(&str, &str, &[u8], Option<bool>); 18] = [
     ("pass", "", &[], Some(true)),
     ("pass", "", LARGE, Some(true)),
     ("drop", "", &[], None),
@@ -178,6 +207,11 @@ static UNASKED: [(&str, &str, &[u8], Option<bool>); 13] = [
     ("pass", "{ use = \"q\" }", SHORT, Some(false)),
     ("pass", "{ use = \"q\" }", OTHERS, Some(true)),
     ("pass", "{ use = \"q\" }", LARGE, Some(false)),
+    ("pass", "{ use = \"q\" }", MARKED, Some(true)),
+    ("pass", EIGHT, MARKED, Some(true)),
+    ("pass", EIGHT, SHORT, Some(false)),
+    ("pass", NINE, MARKED, Some(false)),
+    ("pass", NINE, LARGE, Some(true)),
     ("drop", "{ use = \"q\" }", OTHERS, None),
     (
         "pass",
@@ -219,7 +253,7 @@ fn a_route_without_the_communities_that_are_asked_for_is_known(rt: HostRuntime) 
         let config = read_parts(&rt, rt.alloc(), &parts);
         assert!(&rt; config.clients() > 1);
         let attrs = with_communities(&rt, rt.alloc(), octets);
-        let answer = asked_by_exports(&config, 1).map(|asked| attrs.lacks(asked));
+        let answer = asked_by_exports(&config, 1).map(|asked| attrs.lacks(&asked));
         is_of(&rt, answer, *want, &(default, list, octets));
         let_go(config);
     }

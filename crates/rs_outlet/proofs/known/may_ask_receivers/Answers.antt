@@ -12,7 +12,7 @@ loop-holder-preserved c =
     let t = held_by c.args.sources.now in
     let me = c.args.sources.now.client in
     let h : ℕ × List Attribute = (c.in-Some.holder.client, arc_value c.in-Some.holder.attrs.now) in
-    let here : ReceiversAreAlike t.settings me h.1 = subst (ReceiversAreAlike t.settings me) c.deref.ensures (c.may_ask_receiver.ensures c.if-may_ask_receiver.false) in
+    let here : ReceiversAreAlike t.settings me h.1 = c.may_ask.ensures c.if-may_ask.false in
     λ rest. c.loop-holder.invariant
     (subst (λ hs. AreAlikeForAll t me (map (λ (g : (ℕ × List Attribute) × ℕ). g.0) hs)) (sym c.in-Some.ensures.steps)
     (alike_with t me h (map (λ (g : (ℕ × List Attribute) × ℕ). g.0) c.next.new.self) here rest))

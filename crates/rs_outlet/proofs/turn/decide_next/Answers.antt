@@ -34,3 +34,8 @@ pub returns-then-is_unheld-clause-changes : goal.returns-then-is_unheld-clause-c
 returns-then-is_unheld-clause-changes c =
     let s = c.args.sources.now in
     c.list_gone.ensures (due_to (held_by s) s.client c.args.speech) (c.is_unheld.ensures c.if-is_unheld.true c.args.speech)
+
+pub returns-clause-known : goal.returns-clause-known
+returns-clause-known c =
+    let s = c.args.sources.now in
+    still_known (held_by s) s.ins.now s.client c.args.speech c.args.known.now _ c.find.ensures.rest c.requires.known

@@ -2,7 +2,7 @@ use Rattle.std.proofs.Common.{sym, subst, arith}
 use Rattle.std.proofs.lemmas.List.{drop_all}
 use Rattle.rs_policy.specs.Configuration.{rules_in}
 use Rattle.rs_policy.specs.Unasked.{AreAllPassedOver}
-use Rattle.rs_policy.proofs.Judging.Unasked.{all_by_more, keeps_both}
+use Rattle.rs_policy.proofs.Judging.Unasked.{all_by_more, keeps_both, keeps_itself}
 use Rattle.rs_policy.proofs.Judging.Written.{drop_here}
 use Rattle.rs_policy.proofs.rules.asked.asked_of.Goals as goal
 
@@ -18,4 +18,4 @@ pub loop-item-init : goal.loop-item-init
 loop-item-init c = λ asked among all. all
 
 pub returns : goal.returns
-returns c = c.loop-item.invariant c.loop-item.marks (λ n is. is, λ n is. is) (subst (AreAllPassedOver c.loop-item.marks c.args.to_as c.args.shared.now) (sym (drop_all c.loop-item.item-index c.args.items.now c.loop-item-test.false)) tt)
+returns c = c.loop-item.invariant c.loop-item.marks (keeps_itself c.loop-item.marks) (subst (AreAllPassedOver c.loop-item.marks c.args.to_as c.args.shared.now) (sym (drop_all c.loop-item.item-index c.args.items.now c.loop-item-test.false)) tt)

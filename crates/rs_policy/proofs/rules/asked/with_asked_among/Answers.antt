@@ -1,7 +1,7 @@
 use Rattle.std.proofs.Common.{sym, subst, arith}
 use Rattle.std.proofs.lemmas.List.{drop_all}
 use Rattle.rs_policy.specs.Unasked.{ArePassedOver}
-use Rattle.rs_policy.proofs.Judging.Unasked.{keeps_both, passed_by_more}
+use Rattle.rs_policy.proofs.Judging.Unasked.{keeps_both, keeps_itself, passed_by_more}
 use Rattle.rs_policy.proofs.Judging.Written.{drop_here}
 use Rattle.rs_policy.proofs.rules.asked.with_asked_among.Goals as goal
 
@@ -17,10 +17,10 @@ loop-rule-preserved c =
     }
 
 pub loop-rule-init : goal.loop-rule-init
-loop-rule-init c = record { kept = (λ n is. is, λ n is. is); all = λ asked among all. all }
+loop-rule-init c = record { kept = keeps_itself c.args.before; all = λ asked among all. all }
 
 pub returns : goal.returns
 returns c = record {
   kept = c.loop-rule.invariant.kept;
-  passed_over = c.loop-rule.invariant.all c.loop-rule.marks (λ n is. is, λ n is. is) (subst (ArePassedOver c.loop-rule.marks c.args.to_as) (sym (drop_all c.loop-rule.rule-index c.args.rules.now c.loop-rule-test.false)) tt);
+  passed_over = c.loop-rule.invariant.all c.loop-rule.marks (keeps_itself c.loop-rule.marks) (subst (ArePassedOver c.loop-rule.marks c.args.to_as) (sym (drop_all c.loop-rule.rule-index c.args.rules.now c.loop-rule-test.false)) tt);
 }
