@@ -1,4 +1,5 @@
--- Marks of the communities that a route has, and of those that are asked for.
+-- Marks of the communities that a route has, and what rules ask for, by marks and by first parts: the first 16 bits of communities
+-- (RFC 1997) and the Global Administrators of large ones (RFC 8092).
 use Rattle.std.specs.Prelude.{◌≡◌, ℕ, Bool, ◌==◌, ◌||◌, true, false, List, Option, min, option_map, take, unwrap_or}
 use Rattle.std.specs.List.{list_any}
 use Rattle.rs_attrs.specs.Getters.{communities_of, large_communities_of}
@@ -31,10 +32,11 @@ has_first f number = f.all || list_any (λ n. n == number) (take (min f.count 8)
 abbrev pub has_part : Firsts → Option ℕ → Bool
 has_part f part = unwrap_or (option_map (has_first f) part) f.all
 
--- whatever the old ask for the new do
+-- whatever first part the old ask for the new do
 abbrev pub KeepsFirsts : Firsts → Firsts → Type 0
 KeepsFirsts old new = (part : Option ℕ) → has_part old part ≡ true → has_part new part ≡ true
 
+-- whatever communities the old ask for, large or not, the new do
 abbrev pub KeepsAsked : AskedTags → AskedTags → Type 0
 KeepsAsked old new = KeepsTagMarks old.marks new.marks × KeepsFirsts old.firsts new.firsts × KeepsFirsts old.globals new.globals
 
@@ -49,9 +51,10 @@ AsksForLarge asked p = KeepsMarks (part_marks p.global) asked.marks.large × (ha
 abbrev pub LacksFirsts : AskedTags → List Attribute → Type 0
 LacksFirsts asked m = (p : CommunityPattern) → AsksFor asked p → list_any (is_like p) (communities_of m) ≡ false
 
--- no large one is
+-- no large community is
 abbrev pub LacksGlobals : AskedTags → List Attribute → Type 0
 LacksGlobals asked m = (p : LargeCommunityPattern) → AsksForLarge asked p → list_any (is_like_large p) (large_communities_of m) ≡ false
 
+-- neither a community nor a large one is
 abbrev pub LacksAsked : AskedTags → List Attribute → Type 0
 LacksAsked asked m = LacksFirsts asked m × LacksGlobals asked m

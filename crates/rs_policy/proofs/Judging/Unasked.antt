@@ -10,7 +10,7 @@ use Rattle.rs_policy.specs.Configuration.{Configuration, NamedList, SharedRules,
 use Rattle.rs_policy.specs.Noted.{IsRead}
 use Rattle.rs_policy.specs.Patterns.{large_pattern_for, pattern_for}
 use Rattle.rs_policy.specs.Asking.{asks_receiver}
-use Rattle.rs_policy.specs.Unasked.{AreAllNotAskedOf, AreAllPassedOver, AreNotAskedOf, ArePassedOver, IsNotAskedByLarge, IsNotAskedByShort, IsNotAskedOf, IsPassedOver}
+use Rattle.rs_policy.specs.Unasked.{AreAllNotAskedOf, AreAllPassedOver, AreNotAskedOf, ArePassedOver, IsNotAskedOf, IsPassedOver}
 use Rattle.rs_policy.specs.Verdicts.{AnnouncedRoute, announced_route, joined, matches, outcome, passing_by, passing_by_default, verdict}
 use Rattle.rs_policy.specs.declared.rules.CommunityTest.{CommunityTest}
 use Rattle.rs_policy.specs.declared.rules.Disposition.TheVariants as D
@@ -93,11 +93,6 @@ not_asked_by_more old new rule kept none m lacks = none m (lacks_less old new m 
 pub all_not_asked_by_more : (old new : AskedTags) (rules : List Rule) → KeepsAsked old new → AreNotAskedOf old rules → AreNotAskedOf new rules
 all_not_asked_by_more old new [] kept none = tt
 all_not_asked_by_more old new (rule ∷ rules) kept none = (not_asked_by_more old new rule kept none.0, all_not_asked_by_more old new rules kept none.1)
-
--- a rule asks neither of a community nor of a large one
-pub neither_asks : (asked : AskedTags) (rule : Rule) → IsNotAskedByShort asked rule.tests.community → IsNotAskedByLarge asked rule.tests.large_community → IsNotAskedOf asked rule
-neither_asks asked rule short large m lacks =
-    λ i. short m lacks i || large m lacks i
 
 none_asks_in : (asked : AskedTags) (m : List Attribute) (rules : List Rule) → LacksAsked asked m → AreNotAskedOf asked rules → list_any (asks_receiver m) rules ≡ false
 none_asks_in asked m [] lacks none = refl

@@ -66,7 +66,7 @@ fn asked_of(shared: &[SharedRules], items: &[Item], to_as: u32) -> Option<AskedT
     Some(marks)
 }
 
-/// The marks of the communities that a client's export rules ask for, if each of them asks for one, and what no rule decides is
+/// The communities that a client's export rules ask for, if each of them asks for one, and what no rule decides is
 /// passed. A route that its sender's import list passes plainly (`is_plain_note`) goes to the client as it is, with no
 /// preference and all communities, where it has none of these (`Attrs::lacks`). It takes no memory.
 pub fn asked_by_exports(config: &Config, to: usize) -> Option<AskedTags>

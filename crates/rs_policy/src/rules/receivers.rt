@@ -138,7 +138,16 @@ fn with_large(before: AskedTags, test: Option<LargeCommunityTest>) -> AskedTags
     }
 }
 
-/// The same of all tests of some rules.
+/// The same of both tests of a rule.
+fn with_rule(before: AskedTags, rule: &Rule) -> AskedTags
+    ensures kept { KeepsAsked before result }
+    ensures unasked { IsNotAskedOf result rule.now }
+{
+    let short = with_short(before, rule.tests.community);
+    with_large(short, rule.tests.large_community)
+}
+
+/// The same of some rules.
 fn with_rules(before: AskedTags, rules: &[Rule]) -> AskedTags
     ensures kept { KeepsAsked before result }
     ensures unasked { AreNotAskedOf result rules.now }
@@ -148,15 +157,6 @@ fn with_rules(before: AskedTags, rules: &[Rule]) -> AskedTags
         asked = with_rule(asked, rule);
     }
     asked
-}
-
-/// The same of the tests of a rule.
-fn with_rule(before: AskedTags, rule: &Rule) -> AskedTags
-    ensures kept { KeepsAsked before result }
-    ensures unasked { IsNotAskedOf result rule.now }
-{
-    let short = with_short(before, rule.tests.community);
-    with_large(short, rule.tests.large_community)
 }
 
 /// The same of the rules at a place of a client's list.
