@@ -5,9 +5,10 @@
 //! the heads have the lengths of the values and that the attributes are legal. Their hash and the
 //! marks of their path and communities are made with them, and kept.
 
-ghost use Rattle.std.specs.Prelude.{◌≡◌, ◌↔◌, IsTrue, length, refl};
+ghost use Rattle.std.specs.Prelude.{◌≡◌, ◌↔◌, ◌+◌, ◌≤◌, IsTrue, length, take, drop, nat_eq, refl};
 ghost use Rattle.std.specs.Ordering.{as_partial_cmp};
 ghost use Rattle.std.specs.Cmp.{po};
+ghost use Rattle.std.specs.Cmp.Lexicographic.{pointwise};
 ghost use Rattle.std.specs.Cmp;
 ghost use Rattle.rs_attrs.specs.Comparing.{same_attributes, attributes_cmp, attributes_writes, attributes_hash};
 ghost use Rattle.rs_attrs.specs.ComparisonLaws.{same_attributes_equiv, attributes_cmp_total, attributes_ties, same_attributes_writes};
@@ -22,6 +23,7 @@ use std::alloc::AllocError;
 use std::cmp::Ordering;
 use std::hash::{FoldHasher, Hash, Hasher};
 use std::marker::Model;
+use std::simd::prelude::*;
 
 /// The attributes of a route, one of each type at most, with AS numbers in four octets whatever
 /// the peer spells; always legal (RFC 4271, 5; RFC 7606).
@@ -92,6 +94,43 @@ impl Attrs {
     }
 }
 
+/// How many octets are compared at once.
+const LANES: usize = 16;
+
+/// Whether the sixteen octets from there on are the same in both.
+#[inline(always)]
+fn are_same_at(one: &[u8], other: &[u8], at: usize) -> bool
+    requires one { at + 16 ≤ length one.now }
+    requires other { at + 16 ≤ length other.now }
+    ensures { IsTrue result ↔ (take 16 (drop at one.now) ≡ take 16 (drop at other.now)) }
+{
+    let here = u8x16::from_slice(&one[at..]);
+    let there = u8x16::from_slice(&other[at..]);
+    !here.simd_ne(there).any()
+}
+
+/// Whether both have the same octets, compared sixteen at a time. The last sixteen may have been
+/// seen in part already.
+fn have_same_octets(one: &[u8], other: &[u8]) -> bool
+    ensures { result ≡ pointwise nat_eq one.now other.now }
+{
+    if one.len() != other.len() {
+        return false;
+    }
+    if one.len() < LANES {
+        return one == other;
+    }
+    let last = one.len() - LANES;
+    let mut at = 0;
+    while at < last {
+        if !are_same_at(one, other, at) {
+            return false;
+        }
+        at += LANES;
+    }
+    are_same_at(one, other, last)
+}
+
 impl Clone for Attrs {
     ghost is_clone = { λ attrs copy. copy ≡ attrs };
 
@@ -120,7 +159,7 @@ impl PartialEq for Attrs {
         if self.hash != other.hash {
             return false;
         }
-        self.heads == other.heads && self.values == other.values
+        self.heads == other.heads && have_same_octets(&self.values, &other.values)
     }
 }
 

@@ -16,8 +16,10 @@ pub returns-then-eq : goal.returns-then-eq
 returns-then-eq c =
     let heads : Bool = pointwise same_head c.self.inside.heads.items c.other.inside.heads.items in
     let octets : Bool = pointwise nat_eq c.self.inside.values.items c.other.inside.values.items in
-    let both : heads && octets ≡ c.eq-then-eq.result = ap (λ b. b && octets) (sym c.eq.ensures ∙ c.if-eq.true) ∙ sym c.eq-then-eq.ensures in
-    let decides = Decides-at c.eq-then-eq.result (heads && octets) (sym both) (held_decides _ _ _ _ _ _ c.self.invariant.size c.other.invariant.size c.self.view_is c.other.view_is) in
+    let both : heads && octets ≡ c.have_same_octets.result =
+    ap (λ b. b && octets) (sym c.eq.ensures ∙ c.if-eq.true)
+    ∙ (λ i. pointwise nat_eq (sym c.deref.ensures.value i) (sym c.deref-then-eq.ensures.value i)) ∙ sym c.have_same_octets.ensures in
+    let decides = Decides-at c.have_same_octets.result (heads && octets) (sym both) (held_decides _ _ _ _ _ _ c.self.invariant.size c.other.invariant.size c.self.view_is c.other.view_is) in
     record { value = same_from_decides _ _ decides (attributes_decides c.args.self.now c.args.other.now); decides = decides }
 
 pub returns-else-eq : goal.returns-else-eq
