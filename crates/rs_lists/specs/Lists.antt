@@ -40,6 +40,15 @@ pub record IsIndexed (spans : List Span) : Type 0 where
   pub rising : IsRising spans
   pub linked : IsLinkedTo spans (length spans)
 
+abbrev pub sign_at : List ℕ → ℕ → ℕ
+sign_at signs k = slice_index_or signs k 0
+
+-- the first number of each sixteenth range
+pub record AreSigns (signs : List ℕ) (spans : List Span) : Type 0 where
+  pub all : length spans ≤ 16 * length signs
+  pub within : (k : ℕ) → k < length signs → 16 * k < length spans
+  pub same : (k : ℕ) → k < length signs → sign_at signs k ≡ (span_at spans (16 * k)).low
+
 -- what the order goes by
 abbrev pub place : Span → ℕ
 place s = s.low * 4294967296 + (4294967295 - s.high)

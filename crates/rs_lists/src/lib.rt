@@ -4,10 +4,15 @@
 //! their length, or of AS numbers, whose length is 0. Ranges may overlap and stand twice.
 #![tactic(auto)]
 
-ghost use Rattle.std.specs.Prelude.{◌≡◌, ◌≤◌, ◌<◌, ◌*◌, ◌-◌, ◌^◌, ℕ, length};
-ghost use Rattle.rs_lists.specs.Lists.{IsIndexed, is_listed, IsRising, IsLinkedTo, IsRelinked, SameListed, place, span, span_at, covers};
+ghost use Rattle.std.specs.Prelude.{◌≡◌, ◌+◌, ◌≤◌, ◌<◌, ◌*◌, ◌-◌, ◌^◌, ℕ, length, IfOk};
+ghost use Rattle.std.specs.List.Sorted.{IsNonDecreasing};
+ghost use Rattle.rs_lists.specs.Lists.{AreSigns, sign_at, IsIndexed, is_listed, IsRising, IsLinkedTo, IsRelinked, SameListed, place, span, span_at, covers};
 
+use std::alloc::{AllocError, Global};
 use std::marker::Model;
+
+/// A sign stands at each of so many spans.
+const STRIDE: usize = 16;
 
 /// A range of numbers with the lengths that it takes.
 #[derive(Clone, Copy, Debug, PartialEq, Eq)]
@@ -68,18 +73,30 @@ impl Span {
     }
 }
 
-/// How many spans begin at `n` or before.
-fn begun(spans: &[Span], n: u32) -> usize
-    requires { IsRising spans.now }
+/// How many of the signs, which rise, stand at `n` or before.
+fn passed(signs: &[u32], n: u32) -> usize
+    requires { IsNonDecreasing signs.now }
+    ensures bound { result ≤ length signs.now }
+    ensures before { (k : ℕ) → k < result → sign_at signs.now k ≤ n }
+    ensures after { (k : ℕ) → result ≤ k → k < length signs.now → n < sign_at signs.now k }
+{
+    signs.partition_point(|sign| *sign <= n)
+}
+
+/// How many spans begin at `n` or before, where it is known of all but some: those before them do, and those behind them
+/// don't.
+fn begun_among(spans: &[Span], before: usize, some: usize, n: u32) -> usize
+    requires rising { IsRising spans.now }
+    requires some { 0 < some }
+    requires within { before + some ≤ length spans.now }
+    requires before { (j : ℕ) → j < before → (span_at spans.now j).low ≤ n }
+    requires after { (j : ℕ) → before + some ≤ j → j < length spans.now → n < (span_at spans.now j).low }
     ensures bound { result ≤ length spans.now }
     ensures before { (j : ℕ) → j < result → (span_at spans.now j).low ≤ n }
     ensures after { (j : ℕ) → result ≤ j → j < length spans.now → n < (span_at spans.now j).low }
 {
-    let mut size = spans.len();
-    if size == 0 {
-        return 0;
-    }
-    let mut base = 0;
+    let mut base = before;
+    let mut size = some;
     while size > 1 {
         let half = size / 2;
         let middle = base + half;
@@ -89,12 +106,29 @@ fn begun(spans: &[Span], n: u32) -> usize
     base + usize::from(spans[base].low <= n)
 }
 
+/// How many spans begin at `n` or before: those up to the last sign that does, and of the spans from there to the next sign.
+fn begun(spans: &[Span], signs: &[u32], n: u32) -> usize
+    requires rising { IsRising spans.now }
+    requires signs { AreSigns signs.now spans.now }
+    ensures bound { result ≤ length spans.now }
+    ensures before { (j : ℕ) → j < result → (span_at spans.now j).low ≤ n }
+    ensures after { (j : ℕ) → result ≤ j → j < length spans.now → n < (span_at spans.now j).low }
+{
+    let passed = passed(signs, n);
+    if passed == 0 {
+        return 0;
+    }
+    let before = (passed - 1) * STRIDE;
+    begun_among(spans, before, STRIDE.min(spans.len() - before), n)
+}
+
 /// Whether a span covers the number and the length.
-fn is_listed(spans: &[Span], n: u32, len: u8) -> bool
-    requires { IsIndexed spans.now }
+fn is_listed(spans: &[Span], signs: &[u32], n: u32, len: u8) -> bool
+    requires indexed { IsIndexed spans.now }
+    requires signs { AreSigns signs.now spans.now }
     ensures { result ≡ is_listed n len spans.now }
 {
-    let mut end = begun(spans, n);
+    let mut end = begun(spans, signs, n);
     while end > 0 {
         let span = &spans[end - 1];
         if span.low <= n && n <= span.high && span.min <= len && len <= span.max {
@@ -157,32 +191,51 @@ fn arrange(spans: &mut [Span])
     link(spans);
 }
 
+/// The first number of each sixteenth span.
+fn signs_for(alloc: Global, spans: &[Span]) -> Result<Vec<u32>, AllocError>
+    ensures { IfOk result (λ signs. AreSigns signs.items spans.now) }
+{
+    let mut signs = Vec::with_capacity(alloc, spans.len() / STRIDE + 1)?;
+    let mut place = 0;
+    while place < spans.len() {
+        signs.push(spans[place].low)?;
+        if spans.len() - place <= STRIDE {
+            break;
+        }
+        place += STRIDE;
+    }
+    Ok(signs)
+}
+
 /// Ranges in the order in which they are searched.
 #[derive(Debug, Drop)]
 pub struct Index {
     spans: Vec<Span>,
+    /// The first number of each sixteenth one. They are few, so that a search finds most of its way in them.
+    signs: Vec<u32>,
 }
 
 impl Model for Index {
     ghost use Rattle.std.specs.Prelude.{List};
     ghost use Rattle.rs_lists.specs.declared.Span.{Span};
-    ghost use Rattle.rs_lists.specs.Lists.{IsIndexed};
+    ghost use Rattle.rs_lists.specs.Lists.{AreSigns, IsIndexed};
 
     ghost Value = { List Span };
 
     ghost view = { λ i. i.spans.items };
 
-    ghost invariant = { λ i. IsIndexed i.spans.items };
+    ghost invariant = { λ i. IsIndexed i.spans.items × AreSigns i.signs.items i.spans.items };
 }
 
 impl Index {
     /// The index of some ranges, in whatever order they stand: it covers what they cover.
-    pub fn of(mut spans: Vec<Span>) -> Index
+    pub fn of(alloc: Global, mut spans: Vec<Span>) -> Result<Index, AllocError>
         requires { length spans.items ≤ 4294967295 }
-        ensures { SameListed spans.items result }
+        ensures { IfOk result (λ index. SameListed spans.items index) }
     {
         arrange(&mut spans);
-        Index { spans }
+        let signs = signs_for(alloc, &spans)?;
+        Ok(Index { spans, signs })
     }
 
     /// Whether a range covers the number and the length: a search over the ranges, and a step for each
@@ -190,7 +243,7 @@ impl Index {
     pub fn covers(&self, n: u32, len: u8) -> bool
         ensures { result ≡ is_listed n len self.now }
     {
-        is_listed(&self.spans, n, len)
+        is_listed(&self.spans, &self.signs, n, len)
     }
 
     /// The ranges, in the order in which they are searched.

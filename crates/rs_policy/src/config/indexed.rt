@@ -179,7 +179,7 @@ impl Prefixes {
         ensures { IfOk result (λ p. p ≡ ranges.items) }
     {
         let spans = prefix_spans(alloc, &ranges)?;
-        let index = Index::of(spans);
+        let index = Index::of(alloc, spans)?;
         let text = beside(index.spans(), ranges);
         Ok(Prefixes { text, index })
     }
@@ -197,7 +197,7 @@ impl Ases {
         ensures { IfOk result (λ a. a ≡ ranges.items) }
     {
         let spans = as_spans(alloc, &ranges)?;
-        let index = Index::of(spans);
+        let index = Index::of(alloc, spans)?;
         let text = ases_beside(index.spans(), ranges);
         Ok(Ases { text, index })
     }
