@@ -15,6 +15,7 @@ use crate::beside::Beside;
 use crate::changes::Change;
 use crate::choices::Choices;
 use crate::deciding::Sources;
+use crate::ordered::Ordered;
 use crate::plan::Plan;
 use crate::precedent::{Precedent, known_to};
 use crate::serving::news_to;
@@ -33,6 +34,8 @@ pub struct Handover {
     pub(crate) precedent: Option<Precedent>,
     /// What a neighbour lends.
     pub(crate) beside: Beside,
+    /// How what was touched was put in order.
+    pub(crate) ordered: Ordered,
 }
 
 /// Whether the export list of a client uses `[[rules]]`, or has none: so others have the same.
@@ -51,6 +54,7 @@ impl Handover {
             choices: Choices::new(alloc),
             precedent: None,
             beside: Beside::none(alloc),
+            ordered: Ordered::new(alloc),
         }
     }
 

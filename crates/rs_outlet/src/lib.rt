@@ -39,6 +39,7 @@ pub mod laws;
 mod memo;
 mod news;
 mod noting;
+mod ordered;
 mod outlet;
 mod pieces;
 mod plan;

@@ -5,9 +5,7 @@
 //! all are touched; but only those listed are stale, and the list gets room for twice as many. So
 //! a touch costs a push and a few steps of a sort, whichever prefixes a member chooses.
 
-ghost use Rattle.std.specs.Prelude.{◌≡◌, ◌↔◌, ◌⊎◌, ◌≤◌, ◌<◌, [], None, Some, true, false, length, nat_eq, nat_lt, vec_len, is_none, IsTrue, IfOk, IfSome};
-ghost use Rattle.std.specs.List.{IsDistinct};
-ghost use Rattle.std.specs.Map.{keys_of};
+ghost use Rattle.std.specs.Prelude.{◌≡◌, ◌↔◌, ◌⊎◌, ◌≤◌, ◌<◌, [], None, Some, true, false, length, nat_lt, vec_len, is_none, IsTrue, IfOk, IfSome};
 ghost use Rattle.std.specs.FinSet as set;
 ghost use Rattle.std.specs.Vec.{vec_capacity};
 ghost use Rattle.rs_adjin.specs.declared.adj_ins.AdjIns.{AdjIns};
@@ -15,6 +13,7 @@ ghost use Rattle.rs_adjin.specs.AdjIns.{number_of};
 ghost use Rattle.rs_outlet.specs.Views.{HaveNumbers, Prefixes, is_whole, with_touch};
 ghost use Rattle.rs_outlet.specs.Decided.Touching.{AreOnce, MayAdd, stale_of, touched_of};
 
+use crate::ordered::{Ordered, put_in_order};
 use rs_octets::Prefix;
 use std::alloc::{AllocError, Global};
 
@@ -168,7 +167,11 @@ impl Touched {
     }
 
     /// What is stale, in the order of the numbers; `None` where all may be.
-    pub(crate) fn list(&self, alloc: Global) -> Result<Option<Vec<(u32, Prefix)>>, AllocError>
+    pub(crate) fn list(
+        &self,
+        alloc: Global,
+        ordered: &mut Ordered,
+    ) -> Result<Option<Vec<(u32, Prefix)>>, AllocError>
         ensures all { IfOk result (λ listed. is_none listed ≡ self.now.all) }
         ensures once { IfOk result (λ listed. IfSome listed (λ list. AreOnce self.now.prefixes.items list.items)) }
         ensures whole { (ins : AdjIns) → HaveNumbers self.now.prefixes.items ins → IfOk result (λ listed. IfSome listed (λ list. is_whole (touched_of self.now.all self.now.prefixes.items) ≡ nat_lt 4096 (length list.items))) }
@@ -177,32 +180,7 @@ impl Touched {
         if self.all {
             return Ok(None);
         }
-        let mut list = Vec::from_slice(alloc, &self.prefixes)?;
-        put_in_order(&mut list);
+        let list = ordered.in_order(alloc, &self.prefixes)?;
         Ok(Some(list))
     }
-}
-
-/// Whether each number is greater than the one before it: most touches come so.
-fn do_rise(touches: &[(u32, Prefix)]) -> bool
-    ensures { IsTrue result → IsDistinct nat_eq (keys_of touches.now) }
-{
-    for index in 1..touches.len() {
-        if touches[index].0 <= touches[index - 1].0 {
-            return false;
-        }
-    }
-    true
-}
-
-/// Puts touches in the order of their numbers. A number that was touched several times is left once.
-fn put_in_order(touches: &mut Vec<(u32, Prefix)>)
-    ensures once { AreOnce touches.old.items touches.new.items }
-    ensures capacity { vec_capacity touches.new ≡ vec_capacity touches.old }
-{
-    if do_rise(touches) {
-        return;
-    }
-    touches.sort_unstable_by_key(|touch| touch.0);
-    touches.dedup_by_key(|touch| touch.0);
 }

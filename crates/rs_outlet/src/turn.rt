@@ -497,7 +497,7 @@ fn decide_all_touched(
     ensures count { HaveNumbers touched.now.prefixes.items sources.now.ins.now → IfOk result (λ decided. (prefixes : Prefixes) → touched_of touched.now.all touched.now.prefixes.items ≡ Some prefixes → decided.count ≡ set.len prefixes) }
     ensures all { HaveNumbers touched.now.prefixes.items sources.now.ins.now → AreFresh sources.now.ins.now (due_to (held_by sources.now) sources.now.client speech) rows.now.rows.items (is_number_touched touched.now.all touched.now.prefixes.items) → IfOk result (λ decided. decided.whole ≡ true → IsNumberOf (is_counted sources.now.ins.now rows.now.rows.items (any_holds (held_by sources.now))) decided.count) }
 {
-    match touched.list(alloc)? {
+    match touched.list(alloc, &mut handover.ordered)? {
         None => decide_all(
             alloc,
             sources,

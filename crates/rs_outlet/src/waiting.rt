@@ -22,6 +22,7 @@ ghost use Rattle.rs_outlet.specs.Pending.Slots.{AreApart, AreByHash, AreFresh, I
 
 mod chains;
 mod choosing;
+mod digits;
 mod linking;
 mod marking;
 mod merging;

@@ -23,6 +23,7 @@ ghost use Rattle.rs_outlet.specs.Pending.Chains.{AreInOrder, AreKeyed, AreLinked
 ghost use Rattle.rs_outlet.specs.Pending.Choosing.{shares};
 
 use crate::table::Rows;
+use crate::waiting::digits::sort_by_rank;
 use crate::waiting::linking::chain_by_hash;
 use crate::waiting::{Due, Wait, Waits};
 use rs_adjin::AdjIns;
@@ -246,7 +247,7 @@ fn put_keyed_in_order(exact: bool, rows: &Rows, slots: &[Wait], order: &mut Vec<
     if exact {
         order.sort_unstable_by(|a, b| compare(rows, slots, a, b));
     } else {
-        order.sort_unstable_by_key(|entry| u64::from(entry.key) << 32 | u64::from(entry.slot));
+        sort_by_rank(order);
     }
 }
 

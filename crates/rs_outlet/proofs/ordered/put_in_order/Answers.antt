@@ -2,7 +2,7 @@ use Rattle.std.proofs.Common.{rules}
 use Rattle.std.proofs.lemmas.Fn.{dedup_same}
 use Rattle.std.proofs.lemmas.List.Sorted.{answers_always}
 use Rattle.rs_outlet.proofs.Decided.TouchedList.{ordered, same_number}
-use Rattle.rs_outlet.proofs.touched.put_in_order.Goals as goal
+use Rattle.rs_outlet.proofs.ordered.put_in_order.Goals as goal
 
 pub returns-clause-once : goal.returns-clause-once
 returns-clause-once c =
