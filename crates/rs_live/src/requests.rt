@@ -76,12 +76,13 @@ impl Requests {
 
     /// Whether the type of a request stands in these octets.
     fn finds(&mut self, octets: &[u8]) -> bool {
-        let mut at = 0usize;
+        let mut rest = octets;
         for _ in 0..octets.len() {
-            let Some(rest) = octets.get(at..) else {
+            if rest.is_empty() {
                 break;
-            };
-            at = at.saturating_add(self.pass(rest));
+            }
+            let (_, behind) = rest.split_at(self.pass(rest).min(rest.len()));
+            rest = behind;
         }
         mem::replace(&mut self.asks, false)
     }
