@@ -133,6 +133,9 @@ OF_THE_RECEIVER = (
     (1, 'large_community = "64500:peer:*"', LARGE, True),
 )
 
+# Forty prefixes, every second one of 24 bits, and one around some of them: a search goes by signs among so many.
+FORTY = ", ".join(['"10.0.30.0/23^25"', *(f'"10.0.{2 * n}.0/24"' for n in range(40))])
+
 # Entries of `prefixes`, each list with a prefix and whether it is in. The operators by the examples of RFC 2622, 2.
 LISTED_PREFIXES = (
     ("", "5.0.0.0/8", False),
@@ -170,6 +173,12 @@ LISTED_PREFIXES = (
     ('"10.0.0.0/8^24", "10.1.0.0/16"', "10.2.0.0/16", False),
     ('"10.0.0.0/8", "10.1.0.0/16", "10.2.0.0/16", "10.2.0.0/16"', "10.1.0.0/16", True),
     ('"10.0.0.0/8", "10.1.0.0/16", "10.2.0.0/16", "10.2.0.0/16"', "10.0.0.0/9", False),
+    *((FORTY, f"10.0.{2 * n}.0/24", True) for n in (0, 1, 14, 15, 16, 17, 30, 31, 32, 39)),
+    *((FORTY, f"10.0.{2 * n + 1}.0/24", False) for n in (0, 14, 15, 16, 30, 31, 39)),
+    (FORTY, "9.255.255.0/24", False),
+    (FORTY, "10.0.31.128/25", True),
+    (FORTY, "10.0.32.0/25", False),
+    (FORTY, "10.0.80.0/24", False),
 )
 
 # Entries of `ases`, each list with whether the origin 64496 is in.
@@ -184,6 +193,10 @@ LISTED_ORIGINS = (
     ('0, "65536-65551", "64490-64499", 64496', True),
     ('0, "64490-64499", 64496, "65536-65551"', True),
     ('0, "64490-64495", 64497, "65536-65551"', False),
+    (", ".join(str(64400 + n) for n in range(97)), True),
+    (", ".join(str(64400 + n) for n in range(96)), False),
+    (", ".join(str(64496 + n) for n in range(97)), True),
+    (", ".join(str(64497 + n) for n in range(97)), False),
 )
 
 # Entries of `ases`, each list with whether an AS number of the path 64499 and the set of 64496 is in.

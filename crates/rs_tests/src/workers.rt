@@ -1,11 +1,11 @@
 //! Turns of a small exchange by several workers, against the same turns by one. Both shares of two workers run.
 
-ghost use Rattle.std.specs.Prelude.{IfOk};
 ghost use Rattle.rs_workers.specs.Turned.{ArePlaced};
 
-use crate::common::{ROUTE, equals, is_of, is_so, prefix, shared, text_of};
+use crate::common::{self, ROUTE, equals, is_of, is_so, shared, text_of};
 use rs_adjin::AdjIns;
 use rs_attrs::{Attrs, Mode};
+use rs_octets::Prefix;
 use rs_open::Limit;
 use rs_outlet::{Last, Outlet, Turned, Written, note_all};
 use rs_policy::Config;
@@ -100,9 +100,14 @@ fn attrs(rt: &impl Abort, alloc: Global, host: u8) -> Arc<Attrs> {
     shared(rt, alloc, &field)
 }
 
-/// A member announces one of 65,536 prefixes of 24 bits from 10.0.0.0 on.
+/// One of 65,536 prefixes of 24 bits from 10.0.0.0 on.
+fn prefix(rt: &impl Abort, n: u32) -> Prefix {
+    common::prefix(rt, 0x0a00_0000 | (n & 0xffff) << 8, 24)
+}
+
+/// A member announces the prefix of a number.
 fn announce(rt: &impl Abort, tables: &mut AdjIns, member: usize, n: u32, attrs: &Arc<Attrs>) {
-    let prefix = prefix(rt, 0x0a00_0000 | (n & 0xffff) << 8, 24);
+    let prefix = prefix(rt, n);
     assert!(rt; member < tables.clients());
     let shared = tables.share(attrs).expect(rt, "a set");
     assert!(rt; shared.attrs.has_mandatory());
@@ -128,9 +133,7 @@ fn tables(rt: &impl Abort, alloc: Global, config: &Config, prefixes: u32) -> Adj
 }
 
 /// The outlets of all members, each up.
-fn outlets(alloc: Global, config: &Config) -> Result<Vec<Outlet>, AllocError>
-    ensures { IfOk result (λ all. ArePlaced config.now all.items) }
-{
+fn outlets(alloc: Global, config: &Config) -> Result<Vec<Outlet>, AllocError> {
     let mut all = Vec::new(alloc);
     for client in 0..config.clients() {
         let mut outlet = Outlet::new(alloc, client, false)?;
@@ -138,6 +141,18 @@ fn outlets(alloc: Global, config: &Config) -> Result<Vec<Outlet>, AllocError>
         all.push(outlet)?;
     }
     Ok(all)
+}
+
+/// The same outlets: each is of a client of the configuration.
+fn placed(rt: &impl Abort, alloc: Global, config: &Config, all: Vec<Outlet>) -> Vec<Outlet>
+    ensures { ArePlaced config.now result.items }
+{
+    let mut same = Vec::new(alloc);
+    for outlet in all {
+        assert!(rt; outlet.client() < config.clients());
+        same.push(outlet).expect(rt, "an outlet");
+    }
+    same
 }
 
 /// The members' configuration, and what they announce.
@@ -167,11 +182,23 @@ impl Exchange {
         workers: usize,
         gate: &G,
     ) -> Vec<Outlet> {
+        let all = outlets(self.alloc, &self.config).expect(rt, "outlets");
+        self.turned_again(rt, workers, gate, all)
+    }
+
+    /// These outlets, turned once more.
+    fn turned_again<R: Threads + Wait + Sync + Abort, G: Gate>(
+        &mut self,
+        rt: &R,
+        workers: usize,
+        gate: &G,
+        all: Vec<Outlet>,
+    ) -> Vec<Outlet> {
         assert!(rt; workers > 0);
         assert!(rt; workers <= 16);
         assert!(rt; self.tables.clients() == self.config.clients());
         note_all(&mut self.tables, &self.config);
-        let mut all = outlets(self.alloc, &self.config).expect(rt, "outlets");
+        let mut all = placed(rt, self.alloc, &self.config, all);
         turn_all(
             rt,
             self.alloc,
@@ -282,6 +309,57 @@ fn outlets_of_a_share_have_one_copy_of_their_rows(rt: HostRuntime) {
             copies * 64,
             &workers,
         );
+    }
+}
+
+/// How many rows lie in a block.
+const BLOCK: u32 = 16;
+
+/// The first member announces one prefix of each of so many blocks with another set of attributes, and all outlets are touched
+/// there.
+fn change(
+    rt: &impl Abort,
+    exchange: &mut Exchange,
+    all: &mut [Outlet],
+    blocks: u32,
+    set: &Arc<Attrs>,
+) {
+    assert!(rt; blocks <= 16);
+    for block in 0..blocks {
+        let n = block * BLOCK;
+        announce(rt, &mut exchange.tables, 0, n, set);
+        let prefix = prefix(rt, n);
+        let number = exchange.tables.number(prefix).expect(rt, "its number");
+        for outlet in all.iter_mut() {
+            outlet.touch(number, prefix, 1);
+        }
+    }
+}
+
+/// In how many blocks a turn changes one row each, and how many copies four outlets have of these blocks after it, and after a
+/// turn with nothing to decide.
+static CHANGED: [(u32, [usize; 2]); 2] = [(15, [1, 1]), (16, [4, 1])];
+
+/// Four outlets have one copy of the rows that a turn changed, or where these lie far apart, each its own until a turn with
+/// nothing to decide.
+#[test]
+fn rows_changed_far_apart_are_shared_by_a_quiet_turn(rt: HostRuntime) {
+    for (blocks, copies) in &CHANGED {
+        let mut exchange = Exchange::new(&rt, rt.alloc(), 5, 0);
+        let set = attrs(&rt, exchange.alloc, 11);
+        for n in 0..16 * BLOCK {
+            announce(&rt, &mut exchange.tables, 0, n, &set);
+        }
+        let mut all = exchange.turned(&rt, 1, &Free);
+        let changed = attrs(&rt, exchange.alloc, 12);
+        change(&rt, &mut exchange, &mut all, *blocks, &changed);
+        let before = Arc::strong_count(&changed);
+        for count in copies {
+            all = exchange.turned_again(&rt, 1, &Free, all);
+            let more = Arc::strong_count(&changed).saturating_sub(before);
+            let want = count.saturating_mul(*blocks as usize);
+            is_of(&rt, more, want, &(blocks, count));
+        }
     }
 }
 
