@@ -244,6 +244,13 @@ impl Outlet {
         }
     }
 
+    /// What waits no more is dropped, once nothing waits.
+    fn shed(&mut self)
+        ensures { self.new ≡ self.old }
+    {
+        self.waits.shed();
+    }
+
     /// Decides what is touched; of a whole turn what is stale, as all else has what is due. Memory is
     /// refused only where the client is Established, and such a turn changes nothing but the answer of
     /// the last turn. What other outlets' turns handed over is of these tables and rules.
@@ -286,6 +293,7 @@ impl Outlet {
             asked: asked_by_exports(config, self.client),
             receivers: asked_of_receivers(config, self.client),
         };
+        self.shed();
         match self.turn_up(speech, &sources, handover) {
             Ok(turned) => Ok(turned),
             Err(error) => {

@@ -187,6 +187,20 @@ impl Waits {
         }
     }
 
+    /// A slot waits no more. What was told there is kept with it until it is dropped.
+    pub(crate) fn shut(&mut self, slot: usize)
+        requires { slot < vec_len self.old.slots }
+        ensures shut { IsShut slot self.old.slots.items self.new.slots.items }
+        ensures chained { (rows : List (Option Row)) → AreChained rows (take self.old.sorted self.old.slots.items) self.old.chains.items → AreChained rows (take self.new.sorted self.new.slots.items) self.new.chains.items }
+        ensures withdrawn { withdrawn_count self.new.slots.items ≤ withdrawn_count self.old.slots.items }
+        ensures capacity { vec_capacity self.new.slots ≡ vec_capacity self.old.slots }
+    {
+        let wait = &mut self.slots[slot];
+        let waited = wait.open;
+        wait.open = false;
+        self.waiting -= usize::from(waited);
+    }
+
     /// A slot waits no more. Answers what was told there, and whether it was to be told again.
     pub(crate) fn close(&mut self, slot: usize) -> (Told, bool)
         requires { slot < vec_len self.old.slots }

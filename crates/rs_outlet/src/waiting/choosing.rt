@@ -269,7 +269,8 @@ impl Waits {
         true
     }
 
-    /// These slots wait no more. Once none does, they are dropped.
+    /// These slots wait no more. Once none does, they are dropped: by the next turn where they are many, so that nothing that is
+    /// to be sent waits for it.
     pub(crate) fn give_up(&mut self, chosen: &[usize])
         ensures chained { (rows : List (Option Row)) → AreChained rows (take self.old.sorted self.old.slots.items) self.old.chains.items → AreChained rows (take self.new.sorted self.new.slots.items) self.new.chains.items }
         ensures withdrawn { withdrawn_count self.new.slots.items ≤ withdrawn_count self.old.slots.items }
@@ -277,7 +278,7 @@ impl Waits {
         ensures slots { (rows : List (Option Row)) (said : Option (List Attribute)) (ps : List Prefix) → AreChosen rows self.old.slots.items said chosen.now ps → (q : Prefix) → open_at q self.new.slots.items ≡ (if list_any (eq_by_cmp prefix_order q) ps then None else open_at q self.old.slots.items) }
     {
         self.give_up_all(chosen);
-        self.shed();
+        self.shed_few();
     }
 
     /// These slots wait no more.
@@ -300,7 +301,7 @@ impl Waits {
         ensures slots { IsShut slot self.old.slots.items self.new.slots.items }
     {
         if slot < self.slots.len() {
-            let _ = self.close(slot);
+            self.shut(slot);
         }
     }
 }

@@ -99,6 +99,18 @@ impl Waits {
         }
     }
 
+    /// The same where they are few.
+    pub(crate) fn shed_few(&mut self)
+        ensures slots { (q : Prefix) → open_at q self.new.slots.items ≡ open_at q self.old.slots.items }
+        ensures withdrawn { withdrawn_count self.new.slots.items ≡ withdrawn_count self.old.slots.items }
+        ensures capacity { vec_capacity self.new.slots ≡ vec_capacity self.old.slots }
+        ensures chained { (rows : List (Option Row)) → AreChained rows (take self.old.sorted self.old.slots.items) self.old.chains.items → AreChained rows (take self.new.sorted self.new.slots.items) self.new.chains.items }
+    {
+        if self.slots.len() <= MANY {
+            self.shed();
+        }
+    }
+
     /// Gives back the memory that slots took, where there are none. There is still room for as many.
     fn give_back(&mut self)
         ensures slots { self.new.slots.items ≡ self.old.slots.items }
@@ -239,7 +251,7 @@ impl Waits {
 
     /// Makes the slots ready for a message: for the first one they are one part. That is chained for the second one, or for
     /// the first of a client that took all before, once nothing is to be withdrawn, and stays so while others are added to the
-    /// late part. It takes no memory.
+    /// late part. Where nothing waits they stay as they are. It takes no memory.
     pub(crate) fn prepare(&mut self, rows: &Rows, ins: &AdjIns)
         requires backed { AreBacked rows.now.rows.items self.old.slots.items }
         requires chained { AreChained rows.now.rows.items (take self.old.sorted self.old.slots.items) self.old.chains.items }
@@ -248,6 +260,9 @@ impl Waits {
         ensures withdrawn { withdrawn_count self.new.slots.items ≡ withdrawn_count self.old.slots.items }
         ensures capacity { vec_capacity self.new.slots ≡ vec_capacity self.old.slots }
     {
+        if self.waiting == 0 {
+            return;
+        }
         if self.ready {
             self.chain_news(rows, ins);
         } else if self.begin_first() {

@@ -12,8 +12,8 @@ use Rattle.rs_outlet.specs.declared.answers.Last.TheVariants.{Done}
 use Rattle.rs_outlet.specs.Inside.{view_of}
 use Rattle.rs_outlet.specs.Decided.Due.{Held, due_to}
 use Rattle.rs_outlet.specs.Decided.HeldBy.{tables_of}
-use Rattle.rs_outlet.specs.Decided.Turns.{HasTurned}
-use Rattle.rs_outlet.specs.Views.{IsOneOf, View, is_touched}
+use Rattle.rs_outlet.specs.Decided.Turns.{HasTurned, IsCurrent}
+use Rattle.rs_outlet.specs.Views.{AreNumbered, IsOneOf, View, is_touched}
 use Rattle.rs_outlet.proofs.outlet.Outlet.turn.Goals as goal
 
 abbrev nothing : Turned
@@ -44,14 +44,19 @@ pub returns-in_default-clause-turned : goal.returns-in_default-clause-turned
 returns-in_default-clause-turned c = λ are current. not_up c.args.config.now c.args.ins.now (view_of c.self.inside) c.args.self.now c.self.view_is c.in_default.is
 
 pub returns-in-Ok-clause-turned : goal.returns-in-Ok-clause-turned
-returns-in-Ok-clause-turned c = λ are current.
-    let now = c.args.self.now in
-    let t = tables_of c.args.config.now c.args.ins.now in
+returns-in-Ok-clause-turned c =
+    let config = c.args.config.now in
+    let ins = c.args.ins.now in
+    let now = c.shed.new.self in
+    let t = tables_of config ins in
+    let is = c.self.view_is ∙ sym c.shed.ensures in
+    subst (λ (v : View). AreNumbered v ins → IsCurrent config ins v → HasTurned config ins v c.turn_up.new.self c.in-Ok.turned) c.shed.ensures
+    (λ are current.
     record {
       loc = λ speech up p.
           for_client t _ (map.get now.loc p) (is_touched now.touched p) _ now.client _ speech p
-          (ap (λ (v : View). v.client) c.self.view_is)
-          (same_Some c.in-Some.speech speech (sym c.in-Some.is ∙ ap (λ (v : View). v.speech) c.self.view_is ∙ up))
+          (ap (λ (v : View). v.client) is)
+          (same_Some c.in-Some.speech speech (sym c.in-Some.is ∙ ap (λ (v : View). v.speech) is ∙ up))
           (c.in-Ok.ensures.loc are current p);
       told = c.in-Ok.ensures.told are;
       marked = c.in-Ok.ensures.marked are;
@@ -59,9 +64,9 @@ returns-in-Ok-clause-turned c = λ are current.
       stale = λ up. c.in-Ok.ensures.stale;
       whole = λ up. c.in-Ok.ensures.whole are;
       count = λ up. c.in-Ok.ensures.count are current;
-      down = λ none. absurd (let f : None ≡ Some c.in-Some.speech = sym none ∙ sym (ap (λ (v : View). v.speech) c.self.view_is) ∙ c.in-Some.is in (cc));
+      down = λ none. absurd (let f : None ≡ Some c.in-Some.speech = sym none ∙ sym (ap (λ (v : View). v.speech) is) ∙ c.in-Some.is in (cc));
       last = c.in-Ok.ensures.done;
-    }
+    })
 
 pub returns-in-Ok-clause-due : goal.returns-in-Ok-clause-due
 returns-in-Ok-clause-due c = λ speech up are p.
@@ -70,4 +75,5 @@ returns-in-Ok-clause-due c = λ speech up are p.
     due_for_client t _ (map.get now.loc p) _ now.client _ speech p
     (ap (λ (v : View). v.client) c.self.view_is)
     (same_Some c.in-Some.speech speech (sym c.in-Some.is ∙ ap (λ (v : View). v.speech) c.self.view_is ∙ up))
-    (c.in-Ok.ensures.due are p)
+    (subst (λ (v : View). IsOneOf (map.get c.turn_up.new.self.loc p) (map.get v.loc p) (due_to t c.self.inside.client c.in-Some.speech p)) c.shed.ensures
+    (c.in-Ok.ensures.due (subst (λ (v : View). AreNumbered v c.args.ins.now) (sym c.shed.ensures) are) p))
