@@ -25,9 +25,9 @@ const PIECES: u32 = 3;
 /// three pieces of 4,096 octets, which name some 3,000 prefixes of 24 bits.
 const OCTETS_A_TURN: usize = 8192;
 
-/// From so many octets heard since the last turn on, all workers turn; else one does, for most turns are
-/// short, and to start threads costs more than that saves. `bench/turns.py` measures from where on.
-const MUCH: usize = 4096;
+/// From so many octets heard since the last turn on, times the clients for whom it is to be decided what they name, all workers
+/// turn; else one does, for most turns are short, and to start threads costs more than that saves.
+const MUCH: usize = 400_000;
 
 impl<'a, P: Ports> LiveLink<'a, P> {
     /// The client whose connection this is.
@@ -238,7 +238,8 @@ impl<'a, P: Ports> LiveLink<'a, P> {
         ensures same_ports { SamePorts self.old self.new }
         ensures answers { (piece : List ℕ) → AnswersFrom P.asked Stage.Turn result piece self.old self.new }
     {
-        let is_wide = self.octets_heard >= MUCH || self.phase.told < self.wide_to;
+        let much = self.octets_heard.saturating_mul(self.connections.len());
+        let is_wide = much >= MUCH || self.phase.told < self.wide_to;
         if is_wide != self.is_wide {
             self.is_wide = is_wide;
             return Some(Event::Stop);
