@@ -1,12 +1,11 @@
 -- Pieces: news at all numbers of a block, one after the other, and what pieces have in all.
-use Rattle.std.proofs.Common.{◌≡◌, ◌<◌, ◌≤◌, ◌+◌, ◌-◌, ◌*◌, ℕ, zero, suc, Bool, true, false, ◌||◌, Option, Some, None, List, [], ◌∷◌, ◌++◌, get_or, length, map, slice_set, refl, sym, ap, ◌∙◌, subst, arith}
-use Rattle.std.specs.Prelude.{IfSome, nat_eq, replicate, take}
+use Rattle.std.proofs.Common.{◌≡◌, ◌<◌, ◌≤◌, ◌+◌, ◌-◌, ◌*◌, ℕ, zero, suc, Bool, true, false, ◌||◌, Option, None, List, [], ◌∷◌, ◌++◌, get_or, length, map, slice_set, refl, sym, ap, ◌∙◌, subst, arith}
+use Rattle.std.specs.Prelude.{nat_eq, replicate, take}
 use mathlib.Core.Bool.{true≢false}
 use Rattle.std.specs.Arc.{arc_value}
 use Rattle.std.specs.List.{AllByRecursion, IsDistinct, list_any}
 use Rattle.std.proofs.lemmas.Bool.Decides.{nat_tests}
 use Rattle.std.proofs.lemmas.List.{append_assoc, append-nil, length-map, map-append}
-use Rattle.std.proofs.lemmas.Option.{same_Some}
 use Rattle.std.proofs.lemmas.Map.Keys.{IsDistinct-head, IsDistinct-tail}
 use Rattle.rs_rows.specs.Rows.{IsPrepared, Listed, Row, row_at, written_from}
 use Rattle.rs_outlet.specs.declared.filled.Filled.{Filled}
@@ -15,8 +14,7 @@ use Rattle.rs_outlet.specs.declared.pieces.Piece.{Piece}
 use Rattle.rs_outlet.specs.declared.pieces.Piece.TheVariants as piece
 use Rattle.rs_outlet.specs.declared.plan.Plan.{Plan}
 use Rattle.rs_outlet.specs.declared.plan.Plan.TheVariants as plan
-use Rattle.rs_outlet.specs.Decided.News.{AreFree, AreFrom, change_of, row_of, seen, written}
-use Rattle.rs_outlet.specs.declared.changes.Change.{Change}
+use Rattle.rs_outlet.specs.Decided.News.{AreFree, AreFrom, change_of, row_of, written}
 use Rattle.rs_outlet.specs.Decided.Plans.{HasRows, IsFor, IsOutside, changes_in, news_in, news_of}
 use Rattle.rs_outlet.specs.Inside.{AreBelow, numbers_of}
 use Rattle.rs_outlet.proofs.Pending.News.{HaveARow, written_apart}

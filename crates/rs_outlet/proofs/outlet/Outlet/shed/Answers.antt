@@ -1,4 +1,4 @@
-use Rattle.std.proofs.Common.{◌∙◌, arith, ap, is_some, subst, sym}
+use Rattle.std.proofs.Common.{◌∙◌, arith, ap, is_some, sym}
 use Rattle.std.specs.FinMap as fin
 use Rattle.std.specs.FinSet as set
 use Rattle.rs_outlet.specs.Inside.{loc_of, view_of}

@@ -1,4 +1,4 @@
-use Rattle.std.proofs.Common.{◌≡◌, ◌∙◌, drop, inr, length, refl, sym, subst, take, ap, rules}
+use Rattle.std.proofs.Common.{drop, inr, length, refl, sym, subst, take, ap, rules}
 use Rattle.std.proofs.lemmas.Option.{slice_get_read}
 use Rattle.std.specs.List.Sorted.{IsStrictlySortedBy}
 use Rattle.rs_octets.specs.Prefixes.{prefix_order}
