@@ -363,6 +363,61 @@ fn rows_changed_far_apart_are_shared_by_a_quiet_turn(rt: HostRuntime) {
     }
 }
 
+/// An outlet sends all that waits.
+fn drain(rt: &impl Abort, alloc: Global, tables: &AdjIns, outlet: &mut Outlet) {
+    let mut written = Written::new(alloc).expect(rt, "room for messages");
+    for _ in 0..100_000u32 {
+        outlet.begin(tables, &mut written);
+        let count = outlet.lent().len();
+        outlet.took(count);
+        if outlet.is_drained() {
+            break;
+        }
+    }
+    is_so(rt, outlet.is_drained(), "drained");
+}
+
+/// The first member withdraws so many prefixes, and all is decided anew.
+fn withdraw(rt: &impl Abort, exchange: &mut Exchange, all: &mut [Outlet], prefixes: u32) {
+    for n in 0..prefixes {
+        assert!(rt; exchange.tables.clients() > 0);
+        let prefix = prefix(rt, n);
+        is_so(rt, exchange.tables.withdraw(0, prefix), "a route");
+    }
+    for outlet in all {
+        outlet.touch_all();
+    }
+}
+
+/// How many prefixes go, and how many owners of their attributes the next turn lets go of.
+static GONE: [(u32, usize); 2] = [(1600, 0), (16_400, 16_400)];
+
+/// What was told of prefixes that went is let go of once all is told that they went, or where they are many by the next turn.
+#[test]
+fn what_was_told_of_many_is_let_go_of_by_the_next_turn(rt: HostRuntime) {
+    for (prefixes, owners) in &GONE {
+        let mut exchange = Exchange::new(&rt, rt.alloc(), 2, 0);
+        let set = attrs(&rt, exchange.alloc, 11);
+        for n in 0..*prefixes {
+            announce(&rt, &mut exchange.tables, 0, n, &set);
+        }
+        let mut all = exchange.turned(&rt, 1, &Free);
+        for outlet in &mut all {
+            drain(&rt, exchange.alloc, &exchange.tables, outlet);
+        }
+        withdraw(&rt, &mut exchange, &mut all, *prefixes);
+        let mut all = exchange.turned_again(&rt, 1, &Free, all);
+        for outlet in &mut all {
+            drain(&rt, exchange.alloc, &exchange.tables, outlet);
+        }
+        let before = Arc::strong_count(&set);
+        let all = exchange.turned_again(&rt, 1, &Free, all);
+        let less = before.saturating_sub(Arc::strong_count(&set));
+        is_of(&rt, less, *owners, prefixes);
+        equals(&rt, all.len(), 2);
+    }
+}
+
 /// Turns by so many workers leave all seven outlets as turns by one do.
 fn is_the_same<R: Threads + Wait + Sync + Abort>(rt: &R, exchange: &mut Exchange, workers: usize) {
     let mut alone = exchange.turned(rt, 1, &Free);
