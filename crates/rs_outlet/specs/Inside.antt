@@ -197,16 +197,10 @@ view_of a = record {
   last = a.last;
 }
 
--- the most prefixes that one message holds, each of one octet, behind the header and two lengths
-abbrev pub batch_of : Bool → ℕ
-batch_of extended = longest_where extended - 23
-
 pub record IsKept (a : Inside) : Type 0 where
   pub octets : vec_len a.octets ≡ longest_where a.extended
   pub started : a.start ≤ a.end
   pub ended : a.end ≤ longest_where a.extended
-  pub front : batch_of a.extended ≤ vec_capacity a.front
-  pub chosen : batch_of a.extended ≤ vec_capacity a.chosen
   pub slots : a.rows.used + withdrawn_count a.waits.slots.items ≤ vec_capacity a.waits.slots
   pub extended : (speech : Speech) → a.speech ≡ Some speech → speech.limit ≡ limits.Long → a.extended ≡ true
   pub backed : AreBacked a.rows.rows.items a.waits.slots.items

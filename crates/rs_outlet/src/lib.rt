@@ -17,7 +17,7 @@
 //!   share, and into `waiting`, what is to be sent: slots in two `parts`, of which `merging` makes one. `marking` makes all that
 //!   was told wait again.
 //! - `choosing` says which slots the next UPDATE is about, going along the `chains` of slots with the
-//!   same attributes; `sending` and `fill` begin the next message, which may have been `written` for another client.
+//!   same attributes; `sending` and `fill` begin the next message, of what is listed in a `batch`; it may have been `written` for another client.
 //! - `sharing` lets outlets that are due the same have one copy of their rows; what lies `beside` is lent by one to the next, so that
 //!   this one's rows need not be made first.
 //! - `noting` has routes noted by the import lists of a configuration, as a turn wants them.
@@ -25,6 +25,7 @@
 #![tactic(auto)]
 
 mod answers;
+mod batch;
 mod beside;
 mod by_number;
 mod changes;

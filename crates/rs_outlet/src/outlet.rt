@@ -23,7 +23,7 @@ ghost use Rattle.rs_outlet.specs.Inside.{IsNoNumberOf};
 use crate::answers::{Last, Speech, Turned};
 use crate::deciding::Sources;
 use crate::handover::Handover;
-use crate::sizes::{batch, room};
+use crate::sizes::room;
 use crate::table::Rows;
 use crate::touched::Touched;
 use crate::waiting::Waits;
@@ -64,9 +64,6 @@ pub struct Outlet {
     /// All that was told waits to be told again, and nothing came of it since it was asked for.
     pub(crate) asked: bool,
     pub(crate) last: Last,
-    /// The prefixes of the next message, and the slots where they wait.
-    pub(crate) front: Vec<Prefix>,
-    pub(crate) chosen: Vec<usize>,
 }
 
 impl Model for Outlet {
@@ -118,8 +115,6 @@ impl Outlet {
             touched: Touched::new(alloc)?,
             asked: false,
             last: Last::Never,
-            front: Vec::with_capacity(alloc, batch(extended))?,
-            chosen: Vec::with_capacity(alloc, batch(extended))?,
         })
     }
 

@@ -21,11 +21,12 @@ ghost use Rattle.rs_outlet.specs.Pending.Slots.{is_announced, is_withdrawn, risi
 ghost use Rattle.rs_open.specs.Notes.{limit_octets};
 
 use crate::answers::Speech;
+use crate::batch::Batch;
 use crate::outlet::Outlet;
 use crate::sizes::{most_prefixes, usual_prefixes};
 use crate::table::Rows;
 use crate::waiting::Waits;
-use crate::written::Written;
+use crate::written::{Messages, Written};
 use rs_adjin::AdjIns;
 use rs_attrs::{Attrs, Mode, attributes_are_legal};
 use rs_octets::Prefix;
@@ -109,7 +110,7 @@ fn pack_news(
     prefixes: &[Prefix],
     limit: usize,
     out: &mut [u8],
-    written: &mut Written,
+    messages: &mut Messages,
 ) -> Packed
     requires some { 0 < length prefixes.now }
     requires limit { limit ≤ 65535 }
@@ -121,11 +122,11 @@ fn pack_news(
     ensures octets { take result.octets out.new ≡ announcement (arc_value attrs.now) mode (take result.prefixes prefixes.now) }
     ensures most { result.octets ≤ limit }
 {
-    if let Some(packed) = written.repeat(attrs, mode, prefixes, limit, out) {
+    if let Some(packed) = messages.repeat(attrs, mode, prefixes, limit, out) {
         return packed;
     }
     let packed = write_news(attrs, mode, prefixes, limit, out);
-    written.keep(
+    messages.keep(
         attrs,
         mode,
         &prefixes[..packed.prefixes],
@@ -154,7 +155,7 @@ fn put_announcement(
     speech: Speech,
     prefixes: &[Prefix],
     out: &mut Vec<u8>,
-    written: &mut Written,
+    messages: &mut Messages,
 ) -> Packed
     requires some { 0 < length prefixes.now }
     requires room { limit_octets speech.limit ≤ vec_len out.old }
@@ -172,38 +173,29 @@ fn put_announcement(
         prefixes,
         speech.limit.octets(),
         out,
-        written,
+        messages,
     )
 }
 
 /// Writes the withdrawal of what waits for one, and lists the slots.
-fn put_gone(
-    waits: &Waits,
-    speech: Speech,
-    chosen: &mut Vec<usize>,
-    front: &mut Vec<Prefix>,
-    out: &mut Vec<u8>,
-) -> Packed
+fn put_gone(waits: &Waits, speech: Speech, batch: &mut Batch, out: &mut Vec<u8>) -> Packed
     requires room { limit_octets speech.limit ≤ vec_len out.old }
     requires some { AnyPasses is_withdrawn waits.now.slots.items }
-    requires batch { (limit_octets speech.limit ≤ 23 + vec_capacity chosen.old) × (limit_octets speech.limit ≤ 23 + vec_capacity front.old) }
     ensures most { result.octets ≤ limit_octets speech.limit }
     ensures room { vec_len out.new ≡ vec_len out.old }
-    ensures chosen { vec_capacity chosen.new ≡ vec_capacity chosen.old }
-    ensures front { vec_capacity front.new ≡ vec_capacity front.old }
-    ensures update { (rows : List (Option Row)) → MayUpdate speech rows waits.now.slots.items chosen.new.items front.new.items out.new.items result }
+    ensures update { (rows : List (Option Row)) → MayUpdate speech rows waits.now.slots.items batch.new.chosen.items batch.new.front.items out.new.items result }
 {
     let usual = usual_prefixes(speech.limit);
-    waits.choose_withdrawn(usual, chosen, front);
-    if front.is_empty() {
+    waits.choose_withdrawn(usual, batch);
+    if batch.front.is_empty() {
         return NOTHING;
     }
-    let packed = put_withdrawal(front, speech.limit, out);
+    let packed = put_withdrawal(&batch.front, speech.limit, out);
     if packed.prefixes < usual {
         return packed;
     }
-    waits.choose_withdrawn(most_prefixes(speech.limit), chosen, front);
-    put_withdrawal(front, speech.limit, out)
+    waits.choose_withdrawn(most_prefixes(speech.limit), batch);
+    put_withdrawal(&batch.front, speech.limit, out)
 }
 
 /// Attributes are legal.
@@ -220,10 +212,9 @@ fn put_news(
     known: usize,
     attrs: &Arc<Attrs>,
     speech: Speech,
-    chosen: &mut Vec<usize>,
-    front: &mut Vec<Prefix>,
+    batch: &mut Batch,
     out: &mut Vec<u8>,
-    written: &mut Written,
+    messages: &mut Messages,
 ) -> Packed
     requires room { limit_octets speech.limit ≤ vec_len out.old }
     requires in_turn { NoneWithdrawn waits.old.slots.items }
@@ -232,27 +223,24 @@ fn put_news(
     requires backed { AreBacked rows.now.rows.items waits.old.slots.items }
     requires chained { AreChained rows.now.rows.items (take waits.old.sorted waits.old.slots.items) waits.old.chains.items }
     requires fit { RowsFit speech rows.now.rows.items }
-    requires batch { (limit_octets speech.limit ≤ 23 + vec_capacity chosen.old) × (limit_octets speech.limit ≤ 23 + vec_capacity front.old) }
     ensures most { result.octets ≤ limit_octets speech.limit }
     ensures room { vec_len out.new ≡ vec_len out.old }
-    ensures chosen { vec_capacity chosen.new ≡ vec_capacity chosen.old }
-    ensures front { vec_capacity front.new ≡ vec_capacity front.old }
     ensures slots { waits.new.slots.items ≡ waits.old.slots.items }
     ensures chained { AreChained rows.now.rows.items (take waits.new.sorted waits.new.slots.items) waits.new.chains.items }
     ensures capacity { vec_capacity waits.new.slots ≡ vec_capacity waits.old.slots }
-    ensures update { MayUpdate speech rows.now.rows.items waits.old.slots.items chosen.new.items front.new.items out.new.items result }
+    ensures update { MayUpdate speech rows.now.rows.items waits.old.slots.items batch.new.chosen.items batch.new.front.items out.new.items result }
 {
     // for the prover: they are legal
     are_legal(attrs);
     let usual = usual_prefixes(speech.limit);
-    waits.choose_announced(rows, known, attrs, usual, chosen, front);
-    let packed = put_announcement(attrs, speech, front, out, written);
+    waits.choose_announced(rows, known, attrs, usual, batch);
+    let packed = put_announcement(attrs, speech, &batch.front, out, messages);
     if packed.prefixes < usual {
         return packed;
     }
     let most = most_prefixes(speech.limit);
-    waits.choose_announced(rows, known, attrs, most, chosen, front);
-    put_announcement(attrs, speech, front, out, written)
+    waits.choose_announced(rows, known, attrs, most, batch);
+    put_announcement(attrs, speech, &batch.front, out, messages)
 }
 
 /// Writes the next UPDATE, if something waits, and lists the slots of what it tells.
@@ -260,27 +248,23 @@ fn put_update(
     rows: &Rows,
     waits: &mut Waits,
     speech: Speech,
-    chosen: &mut Vec<usize>,
-    front: &mut Vec<Prefix>,
+    batch: &mut Batch,
     out: &mut Vec<u8>,
-    written: &mut Written,
+    messages: &mut Messages,
 ) -> Packed
     requires room { limit_octets speech.limit ≤ vec_len out.old }
     requires backed { AreBacked rows.now.rows.items waits.old.slots.items }
     requires chained { AreChained rows.now.rows.items (take waits.old.sorted waits.old.slots.items) waits.old.chains.items }
     requires fit { RowsFit speech rows.now.rows.items }
-    requires batch { (limit_octets speech.limit ≤ 23 + vec_capacity chosen.old) × (limit_octets speech.limit ≤ 23 + vec_capacity front.old) }
     ensures most { result.octets ≤ limit_octets speech.limit }
     ensures room { vec_len out.new ≡ vec_len out.old }
-    ensures chosen { vec_capacity chosen.new ≡ vec_capacity chosen.old }
-    ensures front { vec_capacity front.new ≡ vec_capacity front.old }
     ensures slots { waits.new.slots.items ≡ waits.old.slots.items }
     ensures chained { AreChained rows.now.rows.items (take waits.new.sorted waits.new.slots.items) waits.new.chains.items }
     ensures capacity { vec_capacity waits.new.slots ≡ vec_capacity waits.old.slots }
-    ensures update { MayUpdate speech rows.now.rows.items waits.old.slots.items chosen.new.items front.new.items out.new.items result }
+    ensures update { MayUpdate speech rows.now.rows.items waits.old.slots.items batch.new.chosen.items batch.new.front.items out.new.items result }
 {
     if let Some(_slot) = waits.first_withdrawn() {
-        return put_gone(waits, speech, chosen, front, out);
+        return put_gone(waits, speech, batch, out);
     }
     let Some(first) = waits.first_announced() else {
         return NOTHING;
@@ -288,9 +272,7 @@ fn put_update(
     let Some(row) = waits.row_for(rows, first) else {
         return NOTHING;
     };
-    put_news(
-        rows, waits, first, row.attrs, speech, chosen, front, out, written,
-    )
+    put_news(rows, waits, first, row.attrs, speech, batch, out, messages)
 }
 
 impl Outlet {
@@ -341,14 +323,13 @@ impl Outlet {
             &self.rows,
             &mut self.waits,
             speech,
-            &mut self.chosen,
-            &mut self.front,
+            &mut written.batch,
             &mut self.octets,
-            written,
+            &mut written.messages,
         );
         self.start = 0;
         self.end = packed.octets;
-        self.chosen.truncate(packed.prefixes);
-        self.waits.give_up(&self.chosen);
+        written.batch.chosen.truncate(packed.prefixes);
+        self.waits.give_up(&written.batch.chosen);
     }
 }

@@ -3,7 +3,6 @@
 ghost use Rattle.std.specs.Prelude.{◌≡◌, ◌≤◌, ◌<◌, ◌-◌};
 ghost use Rattle.rs_open.specs.Notes.{limit_octets};
 ghost use Rattle.rs_octets.specs.Numbers.{longest_where};
-ghost use Rattle.rs_outlet.specs.Inside.{batch_of};
 
 use rs_octets::longest_message;
 use rs_open::Limit;
@@ -35,11 +34,4 @@ pub(crate) fn usual_prefixes(limit: Limit) -> usize
 {
     let most = most_prefixes(limit);
     most / 4 + most / 64 + 1
-}
-
-/// The most prefixes that a message to a client holds.
-pub(crate) fn batch(extended: bool) -> usize
-    ensures { result ≡ batch_of extended }
-{
-    room(extended) - EMPTY_UPDATE
 }

@@ -1,5 +1,6 @@
-//! The messages that were written last, for the clients that are told next: most are told of the same prefixes with the
-//! same attributes, so that the same octets are sent to each.
+//! What serves each message that begins, whoever it is for: the messages that were written last, as most clients are told
+//! of the same prefixes with the same attributes, so that the same octets are sent to each; and room for what a message
+//! tells of (`batch`).
 //!
 //! A message stands at a place by the hash of its attributes, where a later one takes its place. It is there only to save
 //! time: whatever stands there, a client is sent what it would be without.
@@ -8,11 +9,11 @@ ghost use Rattle.std.specs.Prelude.{◌≡◌, ◌<◌, ◌≤◌, length, take,
 ghost use Rattle.std.specs.Arc.{arc_value};
 ghost use Rattle.rs_packer.specs.Packed.{announcement, IsLongestFront};
 
+use crate::batch::Batch;
 use rs_attrs::{Attrs, Mode};
 use rs_octets::{Prefix, put};
 use rs_packer::Packed;
 use std::alloc::{AllocError, Global};
-use std::marker::Model;
 use std::sync::Arc;
 
 /// How many messages are kept.
@@ -40,8 +41,15 @@ struct Message {
 
 /// The messages that were written last.
 #[derive(Drop)]
+pub(crate) struct Messages {
+    kept: Vec<Option<Message>>,
+}
+
+/// What serves each message that begins: the messages that were written last, and room for what the next one tells of.
+#[derive(Drop)]
 pub struct Written {
-    messages: Vec<Option<Message>>,
+    pub(crate) messages: Messages,
+    pub(crate) batch: Batch,
 }
 
 /// Items at the front of room for more, in which what is `spare` stands.
@@ -123,11 +131,21 @@ fn place_of(attrs: &Attrs) -> usize {
 impl Written {
     /// No message was written yet.
     pub fn new(alloc: Global) -> Result<Written, AllocError> {
-        let mut messages = Vec::with_capacity(alloc, PLACES)?;
+        Ok(Written {
+            messages: Messages::new(alloc)?,
+            batch: Batch::new(alloc)?,
+        })
+    }
+}
+
+impl Messages {
+    /// None was written yet.
+    fn new(alloc: Global) -> Result<Messages, AllocError> {
+        let mut kept = Vec::with_capacity(alloc, PLACES)?;
         for _ in 0..PLACES {
-            messages.push(None)?;
+            kept.push(None)?;
         }
-        Ok(Written { messages })
+        Ok(Messages { kept })
     }
 
     /// Writes the message that announces all these prefixes with these attributes, if it was written before and fits.
@@ -148,7 +166,7 @@ impl Written {
         ensures none { IfNone result (out.new ≡ out.old) }
         ensures len { length out.new ≡ length out.old }
     {
-        let message = self.messages.get(place_of(attrs))?.as_ref()?;
+        let message = self.kept.get(place_of(attrs))?.as_ref()?;
         let octets = message.octets_for(attrs, mode, prefixes)?;
         if limit < octets.len() {
             return None;
@@ -169,7 +187,7 @@ impl Written {
     )
         requires { octets.now ≡ announcement (arc_value attrs.now) mode prefixes.now }
     {
-        if let Some(place) = self.messages.get_mut(place_of(attrs)) {
+        if let Some(place) = self.kept.get_mut(place_of(attrs)) {
             *place = Message::short(attrs, mode, prefixes, octets);
         }
     }

@@ -1,6 +1,6 @@
 //! Which slots the next UPDATE is about, and that they wait no more once it is begun.
 
-ghost use Rattle.std.specs.Prelude.{◌≡◌, ◌≤◌, ◌<◌, ◌++◌, ◌∷◌, ◌⊎◌, [], IfSome, ℕ, length, take, true, List, Option, None, Some, false, IsTrue, vec_len, option_map, slice_get, if◌then◌else◌};
+ghost use Rattle.std.specs.Prelude.{◌≡◌, ◌≤◌, ◌<◌, ◌+◌, ◌++◌, ◌∷◌, ◌⊎◌, [], IfSome, ℕ, length, take, true, List, Option, None, Some, false, IsTrue, vec_len, option_map, slice_get, if◌then◌else◌};
 ghost use Rattle.std.specs.Arc.{arc_value};
 ghost use Rattle.std.specs.List.{AllWithin, HoldsAt, list_any};
 ghost use Rattle.std.specs.Ordering.{eq_by_cmp};
@@ -15,7 +15,10 @@ ghost use Rattle.rs_outlet.specs.Pending.Choosing.{HasRow, HaveRoom, IsChosen, I
 ghost use Rattle.rs_outlet.specs.Inside.{AreBacked, AreChained, IsBacked, row_by, shown};
 ghost use Rattle.rs_outlet.specs.Message.Next.{has_attributes};
 ghost use Rattle.rs_rows.specs.Places.{lent_row};
+ghost use Rattle.rs_open.specs.Notes.{limit_octets};
+ghost use Rattle.rs_open.specs.declared.short.Limit.TheVariants as limits;
 
+use crate::batch::Batch;
 use crate::table::Rows;
 use crate::waiting::{Due, Wait, Waits};
 use rs_attrs::Attrs;
@@ -83,21 +86,14 @@ impl Waits {
     }
 
     /// Lists what is to be withdrawn and nothing else, from the least prefix on: so many at most.
-    pub(crate) fn choose_withdrawn(
-        &self,
-        most: usize,
-        chosen: &mut Vec<usize>,
-        front: &mut Vec<Prefix>,
-    )
-        requires { (most ≤ vec_capacity chosen.old) × (most ≤ vec_capacity front.old) }
-        ensures chosen { vec_capacity chosen.new ≡ vec_capacity chosen.old }
-        ensures front { vec_capacity front.new ≡ vec_capacity front.old }
-        ensures are { (rows : List (Option Row)) → AreChosen rows self.now.slots.items None chosen.new.items front.new.items }
-        ensures all { front.new.items ≡ take most (passing is_withdrawn (rising self.now.slots.items)) }
+    pub(crate) fn choose_withdrawn(&self, most: usize, batch: &mut Batch)
+        requires { most + 23 ≤ limit_octets limits.Long }
+        ensures are { (rows : List (Option Row)) → AreChosen rows self.now.slots.items None batch.new.chosen.items batch.new.front.items }
+        ensures all { batch.new.front.items ≡ take most (passing is_withdrawn (rising self.now.slots.items)) }
     {
-        chosen.clear();
-        front.clear();
-        self.collect_withdrawn(most, chosen, front);
+        batch.chosen.clear();
+        batch.front.clear();
+        self.collect_withdrawn(most, &mut batch.chosen, &mut batch.front);
     }
 
     /// Lists what is to be withdrawn, from the least prefix on, as much as there is room for.
@@ -163,24 +159,28 @@ impl Waits {
         known: usize,
         attrs: &Arc<Attrs>,
         most: usize,
-        chosen: &mut Vec<usize>,
-        front: &mut Vec<Prefix>,
+        batch: &mut Batch,
     )
-        requires most { (most ≤ vec_capacity chosen.old) × (most ≤ vec_capacity front.old) }
+        requires most { most + 23 ≤ limit_octets limits.Long }
         requires known { HoldsAt (WaitsFor rows.now.rows.items (arc_value attrs.now)) self.old.slots.items known }
         requires backed { AreBacked rows.now.rows.items self.old.slots.items }
         requires chained { AreChained rows.now.rows.items (take self.old.sorted self.old.slots.items) self.old.chains.items }
-        ensures chosen { vec_capacity chosen.new ≡ vec_capacity chosen.old }
-        ensures front { vec_capacity front.new ≡ vec_capacity front.old }
-        ensures are { AreChosen rows.now.rows.items self.old.slots.items (Some (arc_value attrs.now)) chosen.new.items front.new.items }
-        ensures all { front.new.items ≡ take most (passing (shares rows.now.rows.items (arc_value attrs.now)) (rising self.old.slots.items)) }
+        ensures are { AreChosen rows.now.rows.items self.old.slots.items (Some (arc_value attrs.now)) batch.new.chosen.items batch.new.front.items }
+        ensures all { batch.new.front.items ≡ take most (passing (shares rows.now.rows.items (arc_value attrs.now)) (rising self.old.slots.items)) }
         ensures slots { self.new.slots.items ≡ self.old.slots.items }
         ensures chained { AreChained rows.now.rows.items (take self.new.sorted self.new.slots.items) self.new.chains.items }
         ensures capacity { vec_capacity self.new.slots ≡ vec_capacity self.old.slots }
     {
-        chosen.clear();
-        front.clear();
-        let (passed, walked) = self.collect_announced(rows, known, attrs, most, chosen, front);
+        batch.chosen.clear();
+        batch.front.clear();
+        let (passed, walked) = self.collect_announced(
+            rows,
+            known,
+            attrs,
+            most,
+            &mut batch.chosen,
+            &mut batch.front,
+        );
         self.note_passed(passed);
         self.note_walked(walked, passed);
     }

@@ -22,7 +22,7 @@ returns-clause-begins c = λ spoken e.
     update_seen c.args.speech spoken (view_of a) c.args.self.now _ rows ws c.give_up.new.self.slots.items c.self.view_is (sym c.requires ∙ e)
     (record { loc = refl; told = sym (told_same (loc_of rows) was ws is); marked = sym (marked_same (loc_of rows) was ws is); waits = sym (waits_same (loc_of rows) was ws is); numbers = λ ins h. all_front (λ (e : ℕ × Prefix). number_of ins e.1 ≡ Some e.0) (numbers_from 0 rows) _ h })
     (record { loc = refl; told = refl; marked = refl; waits = refl; numbers = λ ins h. all_front (λ (e : ℕ × Prefix). number_of ins e.1 ≡ Some e.0) (numbers_from 0 rows) _ h })
-    c.put_update-packed.new.chosen.items c.put_update-packed.new.front.items c.put_update-packed.new.out.items c.put_update-packed.result
+    c.put_update-packed.new.batch.chosen.items c.put_update-packed.new.batch.front.items c.put_update-packed.new.out.items c.put_update-packed.result
     c.put_update-packed.ensures.update c.put_update-packed.ensures.most
     (from_start c.put_update-packed.new.out.items c.put_update-packed.result.octets)
     (λ said qs are q.
@@ -50,11 +50,9 @@ invariant_of-self c =
       octets = search rules;
       started = search rules;
       ended = search rules;
-      front = search rules;
-      chosen = search rules;
       slots = omega (arith, kept.slots, c.give_up.ensures.withdrawn, c.give_up.ensures.capacity, ap withdrawn_count c.put_update-packed.ensures.slots, c.put_update-packed.ensures.capacity, c.prepare.ensures.withdrawn, c.prepare.ensures.capacity);
       extended = kept.extended;
-      backed = backed_left c.args.speech rows c.prepare.new.self.slots.items c.give_up.new.self.slots.items c.put_update-packed.new.chosen.items c.put_update-packed.new.front.items c.put_update-packed.new.out.items c.put_update-packed.result
+      backed = backed_left c.args.speech rows c.prepare.new.self.slots.items c.give_up.new.self.slots.items c.put_update-packed.new.batch.chosen.items c.put_update-packed.new.batch.front.items c.put_update-packed.new.out.items c.put_update-packed.result
           c.put_update-packed.ensures.update
           (λ said qs are q.
           c.give_up.ensures.slots rows said qs

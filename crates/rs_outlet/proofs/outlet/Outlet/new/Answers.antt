@@ -8,8 +8,6 @@ invariant_of-result c = record {
   octets = c.in_ok-vec.ensures.len ∙ c.room.ensures.value;
   started = omega arith;
   ended = omega arith;
-  front = omega (arith, c.batch.ensures, c.in_ok-with_capacity.ensures.capacity);
-  chosen = omega (arith, c.batch-2.ensures, c.in_ok-with_capacity-2.ensures.capacity);
   slots = omega (arith, c.new.ensures.used, ap withdrawn_count c.new-2.ensures.slots);
   extended = λ speech e. cc e;
   backed = λ q w is. absurd (let f : None ≡ Some w = sym (ap (open_at q) c.new-2.ensures.slots) ∙ is in (cc));
