@@ -1,6 +1,6 @@
 -- What a clause says of an answer, where it is known which one that is.
 use Rattle.std.proofs.Common.{◌≡◌, ℕ, false, List, Option, None, Some, Result, Ok, Err, get_or, is_some, length, nat_lt, option_map, refl, subst, sym, arith}
-use Rattle.std.specs.Prelude.{IfSome, OnOk, is_err, option_copied, slice_get}
+use Rattle.std.specs.Prelude.{IfOk, IfSome, OnOk, is_err, option_copied, slice_get}
 use Rattle.std.specs.Borrow.{Bor}
 use mathlib.Core.Bool.{true≢false}
 use Rattle.std.proofs.lemmas.Bool.Decides.{nat_tests}
@@ -8,6 +8,11 @@ use Rattle.std.proofs.lemmas.Option.{slice_get_past, slice_get_read}
 
 pub if_some_at : {A : Type 0} (Q : A → Type 0) (o : Option A) (x : A) → o ≡ Some x → IfSome o Q → Q x
 if_some_at Q o x is h = subst (λ o. IfSome o Q) is h
+
+pub if_made : {A E : Type 0} (r : Result (Option A) E) (P Q : A → Type 0) → ((x : A) → P x → Q x) → IfOk r (λ made. IfSome made P) → IfOk r (λ made. IfSome made Q)
+if_made (Ok None) P Q each h = tt
+if_made (Ok (Some x)) P Q each h = each x h
+if_made (Err e) P Q each h = tt
 
 pub on_ok : {A E : Type 0} (r : Result A E) (P : Type 0) → is_err r ≡ false → OnOk r P → P
 on_ok (Ok x) P is h = h

@@ -24,10 +24,7 @@ impl ByNumber for Change {
 /// It stands at the first of its numbers.
 impl ByNumber for Whole {
     fn number(&self) -> u32 {
-        match self.filled.news.first() {
-            Some(news) => news.number,
-            None => u32::MAX,
-        }
+        self.number_at(0)
     }
 }
 

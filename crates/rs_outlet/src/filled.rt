@@ -1,33 +1,25 @@
 //! News that fill a block of rows: clients to which all of them are news have one block.
 
-ghost use Rattle.std.specs.Prelude.{◌≡◌, ◌*◌, map, length, option_map, IfOk, IfSome, IsTrue};
+ghost use Rattle.std.specs.Prelude.{◌≡◌, ◌≤◌, ◌<◌, ◌+◌, ◌*◌, map, length, option_map, IfOk, IfSome, IsTrue};
+ghost use Rattle.std.proofs.Props.{props};
 ghost use Rattle.std.specs.Arc.{arc_value};
 ghost use Rattle.rs_rows.specs.Places.{lent_row};
-ghost use Rattle.rs_outlet.specs.Decided.News.{AreFrom, change_of, row_of, seen};
+ghost use Rattle.rs_outlet.specs.Decided.News.{AreFrom, HaveRoutes, change_of, row_of, seen};
 
 use crate::changes::Change;
-use crate::news::News;
+use crate::news::{News, slot_for};
+use crate::waiting::Wait;
 use rs_rows::{Block, Lent, ROWS, lie_together};
 use std::alloc::{AllocError, Global};
 use std::sync::Arc;
 
-/// News at all numbers of a block, and the block that has them.
-#[derive(Drop)]
-pub(crate) struct Filled {
-    pub(crate) place: u32,
-    pub(crate) news: Vec<News>,
-    pub(crate) block: Arc<Block>,
-    ghost rows: { (arc_value block).rows.items ≡ map row_of news.items },
-    ghost numbers: { AreFrom (place * 16) news.items },
-}
-
-/// A share of news that fill a block, and one of the block, for a client's rows: these take it where nothing can be refused
-/// any more.
+/// A block of which all rows are news, for the rows of a client: these take it where nothing can be refused any more.
 #[derive(Drop)]
 pub(crate) struct Whole {
-    pub(crate) filled: Arc<Filled>,
+    pub(crate) place: u32,
     pub(crate) block: Arc<Block>,
-    ghost same: { (arc_value block).rows.items ≡ map row_of (arc_value filled).news.items },
+    ghost full: { HaveRoutes (arc_value block).rows.items } by { Prim.hlevel props },
+    ghost numbered: { place * 16 + 15 ≤ 4294967295 },
 }
 
 /// Whether a row has these news.
@@ -65,10 +57,26 @@ fn block_of(alloc: Global, news: &[News]) -> Result<Arc<Block>, AllocError>
     Ok(Arc::new(alloc, block)?)
 }
 
+/// A block whose rows have these news: one that is `lent`, where it has just them, else a new one.
+fn block_for(
+    alloc: Global,
+    news: &[News],
+    lent: Option<&Arc<Block>>,
+) -> Result<Arc<Block>, AllocError>
+    requires { length news.now ≡ 16 }
+    ensures { IfOk result (λ block. (arc_value block).rows.items ≡ map row_of news.now) }
+{
+    match lent {
+        Some(block) if has_rows_of(block, news) => Ok(block.clone()?),
+        _ => block_of(alloc, news),
+    }
+}
+
 /// The place of the block that news fill: they are at all of its numbers, one after the other.
 pub(crate) fn place_filled(news: &[News]) -> Option<u32>
     ensures full { IfSome result (λ place. length news.now ≡ 16) }
     ensures numbers { IfSome result (λ place. AreFrom (place * 16) news.now) }
+    ensures most { IfSome result (λ place. place * 16 + 15 ≤ 4294967295) }
 {
     if news.len() != ROWS {
         return None;
@@ -96,29 +104,33 @@ fn copied_news(alloc: Global, changes: &[Change]) -> Result<Option<Vec<News>>, A
     Ok(Some(news))
 }
 
-impl Filled {
-    /// News that fill the block of a place. A block that is `lent` serves where it has just their rows, else there is a new one.
+impl Whole {
+    ghost use Rattle.rs_outlet.specs.Decided.Plans.{news_within};
+    ghost use Rattle.rs_outlet.specs.Decided.News.{slot_of};
+    ghost use Rattle.rs_outlet.specs.declared.news.News.{News};
+    ghost use Rattle.std.specs.Prelude.{◌++◌, ◌∷◌, [], Some, slice_get, vec_len};
+    ghost use Rattle.std.specs.Vec.{vec_capacity};
+
+    /// News that fill the block of a place, for which a block may be `lent`.
     pub(crate) fn with(
         alloc: Global,
         place: u32,
-        news: Vec<News>,
+        news: &[News],
         lent: Option<&Arc<Block>>,
-    ) -> Result<Filled, AllocError>
-        requires full { length news.items ≡ 16 }
-        requires numbers { AreFrom (place * 16) news.items }
-        ensures { IfOk result (λ filled. filled.news.items ≡ news.items) }
+    ) -> Result<Whole, AllocError>
+        requires full { length news.now ≡ 16 }
+        requires numbers { AreFrom (place * 16) news.now }
+        requires most { place * 16 + 15 ≤ 4294967295 }
+        ensures { IfOk result (λ whole. map seen (map change_of (news_within whole)) ≡ map seen (map change_of news.now)) }
     {
-        let block = match lent {
-            Some(block) if has_rows_of(block, &news) => block.clone()?,
-            _ => block_of(alloc, &news)?,
-        };
-        Ok(Filled { place, news, block })
+        let block = block_for(alloc, news, lent)?;
+        Ok(Whole { place, block })
     }
 
     /// Sixteen changes, if they are at all numbers of a block, one after the other, and something is due at each.
-    pub(crate) fn of(alloc: Global, changes: &[Change]) -> Result<Option<Filled>, AllocError>
+    pub(crate) fn of(alloc: Global, changes: &[Change]) -> Result<Option<Whole>, AllocError>
         requires { length changes.now ≡ 16 }
-        ensures { IfOk result (λ made. IfSome made (λ filled. map seen (map change_of filled.news.items) ≡ map seen changes.now)) }
+        ensures { IfOk result (λ made. IfSome made (λ whole. map seen (map change_of (news_within whole)) ≡ map seen changes.now)) }
     {
         if !lie_together(changes[0].number, changes[ROWS - 1].number) {
             return Ok(None);
@@ -128,30 +140,48 @@ impl Filled {
         };
         match place_filled(&news) {
             None => Ok(None),
-            Some(place) => Ok(Some(Filled::with(alloc, place, news, None)?)),
+            Some(place) => Ok(Some(Whole::with(alloc, place, &news, None)?)),
         }
     }
-}
 
-impl Whole {
-    /// Shares of news that fill a block.
-    pub(crate) fn of(alloc: Global, filled: Filled) -> Result<Whole, AllocError>
-        ensures { IfOk result (λ whole. (arc_value whole.filled).news.items ≡ filled.news.items) }
+    /// The same once more, which shares the block.
+    pub(crate) fn copy(&self) -> Result<Whole, AllocError>
+        ensures { IfOk result (λ copy. news_within copy ≡ news_within self.now) }
     {
-        let block = filled.block.clone()?;
         Ok(Whole {
-            filled: Arc::new(alloc, filled)?,
-            block,
+            place: self.place,
+            block: self.block.clone()?,
         })
     }
 
-    /// The same once more.
-    pub(crate) fn copy(&self) -> Result<Whole, AllocError>
-        ensures { IfOk result (λ copy. (arc_value copy.filled).news.items ≡ (arc_value self.now.filled).news.items) }
+    /// The number of the row at an index.
+    pub(crate) fn number_at(&self, index: usize) -> u32
+        requires { index < 16 }
+        ensures { result ≡ self.now.place * 16 + index }
     {
-        Ok(Whole {
-            filled: self.filled.clone()?,
-            block: self.block.clone()?,
-        })
+        self.place * ROWS as u32 + index as u32
+    }
+
+    /// Lists the slot of the row at an index, for which there is room.
+    fn list_slot(&self, index: usize, fresh: &mut Vec<Wait>)
+        requires index { index < 16 }
+        requires room { vec_len fresh.old < vec_capacity fresh.old }
+        ensures items { (news : News) → slice_get (news_within self.now) index ≡ Some news → fresh.new.items ≡ fresh.old.items ++ slot_of news ∷ [] }
+        ensures capacity { vec_capacity fresh.new ≡ vec_capacity fresh.old }
+    {
+        if let Some(row) = self.block.at(index) {
+            fresh.push_reserved(slot_for(self.number_at(index), row.prefix, row.attrs));
+        }
+    }
+
+    /// Lists the slots of all its rows, for which there is room.
+    pub(crate) fn list_slots(&self, fresh: &mut Vec<Wait>)
+        requires { vec_len fresh.old + 16 ≤ vec_capacity fresh.old }
+        ensures items { fresh.new.items ≡ fresh.old.items ++ map slot_of (news_within self.now) }
+        ensures capacity { vec_capacity fresh.new ≡ vec_capacity fresh.old }
+    {
+        for index in 0..ROWS {
+            self.list_slot(index, fresh);
+        }
     }
 }

@@ -23,7 +23,6 @@ use crate::changes::Change;
 use crate::chosen::is_absent;
 use crate::deciding::Sources;
 use crate::filled::Whole;
-use crate::news::News;
 use crate::table::Rows;
 use rs_adjin::{Holder, Holders};
 use rs_attrs::{AskedTags, Attrs};
@@ -71,25 +70,17 @@ impl Asked {
         self.is_lacked_by_all(sources.ins.at_number(number))
     }
 
-    /// Whether it serves the next at the numbers of all these news.
-    fn serves_with(self, sources: &Sources<'_>, news: &[News]) -> bool
-        requires server { AreOfOneServer sources.now }
-        ensures { IsTrue result → All (λ n. ServesAt (held_by sources.now) sources.now.ins.now sources.now.client self n.number) news.now }
-    {
-        for one in news {
-            if !self.serves_at(sources, one.number) {
-                return false;
-            }
-        }
-        true
-    }
-
     /// Whether it serves the next at all numbers of a block.
     fn serves_whole(self, sources: &Sources<'_>, whole: &Whole) -> bool
         requires server { AreOfOneServer sources.now }
         ensures { IsTrue result → All (λ n. ServesAt (held_by sources.now) sources.now.ins.now sources.now.client self n.number) (news_within whole.now) }
     {
-        self.serves_with(sources, &whole.filled.news)
+        for index in 0..ROWS {
+            if !self.serves_at(sources, whole.number_at(index)) {
+                return false;
+            }
+        }
+        true
     }
 }
 

@@ -1,7 +1,7 @@
 //! News: a route that is due to a client where nothing was due or told.
 
 ghost use Rattle.std.specs.Prelude.{◌≡◌, None, map, IfOk, IfSome};
-ghost use Rattle.rs_outlet.specs.Decided.News.{change_of, seen, slot_of};
+ghost use Rattle.rs_outlet.specs.Decided.News.{change_of, seen, slot_of, slot_with};
 
 use crate::changes::Change;
 use crate::waiting::{Due, Told, Wait};
@@ -9,6 +9,22 @@ use rs_attrs::Attrs;
 use rs_octets::Prefix;
 use std::alloc::{AllocError, Global};
 use std::sync::Arc;
+
+/// The slot where these attributes wait, of a prefix of which nothing was told.
+pub(crate) fn slot_for(number: u32, prefix: Prefix, attrs: &Attrs) -> Wait
+    ensures { result ≡ slot_with number prefix attrs.now }
+{
+    Wait {
+        prefix,
+        due: Due::Announced {
+            number,
+            hash: attrs.kept_hash(),
+        },
+        marked: false,
+        open: true,
+        told: Told::Nothing,
+    }
+}
 
 /// A route that is due where nothing was due or told.
 #[derive(Drop)]
@@ -71,16 +87,7 @@ impl News {
     pub(crate) fn slot(&self) -> Wait
         ensures { result ≡ slot_of self.now }
     {
-        Wait {
-            prefix: self.prefix,
-            due: Due::Announced {
-                number: self.number,
-                hash: self.attrs.kept_hash(),
-            },
-            marked: false,
-            open: true,
-            told: Told::Nothing,
-        }
+        slot_for(self.number, self.prefix, &self.attrs)
     }
 }
 

@@ -15,7 +15,7 @@ ghost use Rattle.rs_outlet.specs.Decided.Plans.{HasRows, IsOutside, changes_in, 
 
 use crate::beside::Beside;
 use crate::changes::Change;
-use crate::filled::{Filled, Whole, place_filled};
+use crate::filled::{Whole, place_filled};
 use crate::news::News;
 use crate::table::Rows;
 use crate::waiting::{Sorting, Wait, Waits};
@@ -36,7 +36,7 @@ impl Piece {
     {
         match self {
             Piece::One(_) => 1,
-            Piece::Block(whole) => whole.filled.news.len(),
+            Piece::Block(_) => ROWS,
         }
     }
 }
@@ -58,13 +58,14 @@ pub(crate) fn list_news(
     beside: &Beside,
     pieces: &mut Vec<Piece>,
 ) -> Result<(), AllocError>
-    ensures { OnOk result (news_in pieces.new.items ≡ news_in pieces.old.items ++ news.items) }
+    ensures { OnOk result (map seen (changes_in pieces.new.items) ≡ map seen (changes_in pieces.old.items ++ map change_of news.items)) }
 {
     let Some(place) = place_filled(&news) else {
-        return list_each(news, pieces);
+        list_each(news, pieces)?;
+        return Ok(());
     };
-    let filled = Filled::with(alloc, place, news, beside.at(place))?;
-    pieces.push(Piece::Block(Whole::of(alloc, filled)?))?;
+    let whole = Whole::with(alloc, place, &news, beside.at(place))?;
+    pieces.push(Piece::Block(whole))?;
     Ok(())
 }
 
@@ -106,17 +107,6 @@ pub(crate) fn prepare(rows: &mut Rows, pieces: &[Piece]) -> Result<(), AllocErro
     Ok(())
 }
 
-/// Lists the slots of news. There is room for them.
-fn list_slots(fresh: &mut Vec<Wait>, news: &[News])
-    requires { vec_len fresh.old + length news.now ≤ vec_capacity fresh.old }
-    ensures items { fresh.new.items ≡ fresh.old.items ++ map slot_of news.now }
-    ensures capacity { vec_capacity fresh.new ≡ vec_capacity fresh.old }
-{
-    for one in news {
-        fresh.push_reserved(one.slot());
-    }
-}
-
 /// Carries out a piece: the rows have what is due, and it waits.
 fn put_piece(rows: &mut Rows, fresh: &mut Vec<Wait>, piece: Piece)
     requires rows { HasRows rows.old.rows piece }
@@ -140,7 +130,7 @@ fn put_piece(rows: &mut Rows, fresh: &mut Vec<Wait>, piece: Piece)
             rows.put(number, prefix, attrs);
         }
         Piece::Block(whole) => {
-            list_slots(fresh, &whole.filled.news);
+            whole.list_slots(fresh);
             rows.put_block(whole);
         }
     }

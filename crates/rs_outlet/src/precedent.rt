@@ -16,7 +16,7 @@ use crate::answers::Speech;
 use crate::by_number::ByNumber;
 use crate::changes::Change;
 use crate::deciding::Sources;
-use crate::filled::{Filled, Whole};
+use crate::filled::Whole;
 use crate::known::{Asked, Known};
 use crate::table::Rows;
 use rs_attrs::AskedTags;
@@ -38,8 +38,8 @@ pub(crate) struct Precedent {
 }
 
 /// The first sixteen of these changes, if they fill a block, of which the first row is free: so it may serve.
-fn fill_first(alloc: Global, rows: &Rows, changes: &[Change]) -> Result<Option<Filled>, AllocError>
-    ensures { IfOk result (λ made. IfSome made (λ filled. map seen (map change_of filled.news.items) ≡ map seen (take 16 changes.now))) }
+fn fill_first(alloc: Global, rows: &Rows, changes: &[Change]) -> Result<Option<Whole>, AllocError>
+    ensures { IfOk result (λ made. IfSome made (λ whole. map seen (map change_of (news_within whole)) ≡ map seen (take 16 changes.now))) }
 {
     if changes.len() < ROWS {
         return Ok(None);
@@ -48,7 +48,7 @@ fn fill_first(alloc: Global, rows: &Rows, changes: &[Change]) -> Result<Option<F
     if first as usize % ROWS != 0 || rows.get(first).is_some() {
         return Ok(None);
     }
-    Filled::of(alloc, &changes[..ROWS])
+    Whole::of(alloc, &changes[..ROWS])
 }
 
 /// The block that the first sixteen of these changes fill: one that is there already, if it is of the same place.
@@ -68,10 +68,7 @@ fn first_whole(
     {
         return Ok(Some(whole.copy()?));
     }
-    match fill_first(alloc, rows, changes)? {
-        None => Ok(None),
-        Some(filled) => Ok(Some(Whole::of(alloc, filled)?)),
-    }
+    fill_first(alloc, rows, changes)
 }
 
 /// The blocks that these changes fill.

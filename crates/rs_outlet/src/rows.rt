@@ -13,7 +13,7 @@ use crate::filled::Whole;
 use crate::table::Rows;
 use rs_attrs::Attrs;
 use rs_octets::Prefix;
-use rs_rows::{Blocks, Lent, Taken};
+use rs_rows::{Blocks, Lent, ROWS, Taken};
 use std::alloc::{AllocError, Global};
 use std::sync::Arc;
 
@@ -133,18 +133,18 @@ impl Rows {
 
     /// The free rows of a block have news, as other clients have them: the block is shared.
     pub(crate) fn put_block(&mut self, whole: Whole)
-        requires row { (arc_value whole.filled).place * 16 + 15 < length self.old.rows.items }
+        requires row { whole.place * 16 + 15 < length self.old.rows.items }
         requires free { AreFree self.old.rows.items (news_within whole) }
         ensures rows { self.new.rows.items ≡ written (news_within whole) self.old.rows.items }
         ensures room { length self.new.rows.items ≡ length self.old.rows.items }
-        ensures kept { (m : ℕ) → m / 16 ≢ (arc_value whole.filled).place → IsPrepared self.old.rows.prepared m → IsPrepared self.new.rows.prepared m }
+        ensures kept { (m : ℕ) → m / 16 ≢ whole.place → IsPrepared self.old.rows.prepared m → IsPrepared self.new.rows.prepared m }
         ensures used { self.new.used ≡ self.old.used + length (news_within whole) }
     {
-        let Whole { filled, block } = whole;
+        let Whole { place, block } = whole;
         // for the prover: as many more can be counted
         let _count = self.rows.count();
-        self.rows.put_block(filled.place, block);
-        self.used += filled.news.len();
+        self.rows.put_block(place, block);
+        self.used += ROWS;
     }
 
     /// Whether the blocks that a turn wrote are better shared later.

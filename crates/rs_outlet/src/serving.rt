@@ -30,6 +30,7 @@ use crate::news::News;
 use crate::pieces::Piece;
 use crate::table::Rows;
 use rs_octets::Prefix;
+use rs_rows::ROWS;
 use std::alloc::{AllocError, Global};
 
 /// Whether a client's row has nothing.
@@ -47,23 +48,23 @@ fn is_new_at(sources: &Sources<'_>, rows: &Rows, number: u32) -> bool
     is_free(rows, number) && is_absent(sources, number)
 }
 
-/// Whether these are news to a client, at the first of these prefixes.
+/// Whether all rows of a block are news to a client, at the first of these prefixes.
 fn are_first_new(
     sources: &Sources<'_>,
     rows: &Rows,
-    news: &[News],
+    whole: &Whole,
     touched: &[(u32, Prefix)],
 ) -> bool
-    ensures many { IsTrue result → length news.now ≤ length touched.now }
-    ensures first { IsTrue result → keys_of (take (length news.now) touched.now) ≡ numbers_of (map change_of news.now) }
-    ensures free { IsTrue result → AreFree rows.now.rows.items news.now }
-    ensures unheld { IsTrue result → AreUnheld (held_by sources.now) sources.now.ins.now sources.now.client (numbers_of (map change_of news.now)) }
+    ensures many { IsTrue result → length (news_within whole.now) ≤ length touched.now }
+    ensures first { IsTrue result → keys_of (take (length (news_within whole.now)) touched.now) ≡ numbers_of (map change_of (news_within whole.now)) }
+    ensures free { IsTrue result → AreFree rows.now.rows.items (news_within whole.now) }
+    ensures unheld { IsTrue result → AreUnheld (held_by sources.now) sources.now.ins.now sources.now.client (numbers_of (map change_of (news_within whole.now))) }
 {
-    if touched.len() < news.len() {
+    if touched.len() < ROWS {
         return false;
     }
-    for index in 0..news.len() {
-        let number = news[index].number;
+    for index in 0..ROWS {
+        let number = whole.number_at(index);
         if touched[index].0 != number || !is_new_at(sources, rows, number) {
             return false;
         }
@@ -88,7 +89,7 @@ fn whole_at(
     let Some(whole) = known.find_whole(sources, touched[0].0) else {
         return Ok(None);
     };
-    if are_first_new(sources, rows, &whole.filled.news, touched) {
+    if are_first_new(sources, rows, whole, touched) {
         Ok(Some(whole.copy()?))
     } else {
         Ok(None)

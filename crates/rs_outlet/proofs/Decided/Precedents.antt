@@ -95,6 +95,23 @@ all_back P (c ∷ cs) all = (all.0, all_back P cs all.1)
 pub all_seen : (P : Seen → Type 0) (cs ds : List Change) → map seen ds ≡ map seen cs → AllByRecursion (λ c. P (seen c)) cs → AllByRecursion (λ c. P (seen c)) ds
 all_seen P cs ds same all = all_back P ds (subst (AllByRecursion P) (sym same) (all_to P cs all))
 
+numbers_seen : (cs : List Change) → numbers_of cs ≡ map (λ (it : Seen). it.0.0) (map seen cs)
+numbers_seen [] = refl
+numbers_seen (c ∷ cs) = ap (λ ns. c.number ∷ ns) (numbers_seen cs)
+
+-- whoever owns the attributes, what is decided is
+pub decided_seen : (ins : AdjIns) (due_at : Prefix → Option (List Attribute)) (rows : List (Option Row)) (is_in : ℕ → Bool) (cs ds : List Change) → map seen ds ≡ map seen cs → AreDecided ins due_at rows is_in cs → AreDecided ins due_at rows is_in ds
+decided_seen ins due_at rows is_in cs ds same h =
+    let numbers : numbers_of ds ≡ numbers_of cs = numbers_seen ds ∙ ap (map (λ (it : Seen). it.0.0)) same ∙ sym (numbers_seen cs) in
+    record {
+      placed = all_seen (λ it. number_of ins it.0.1 ≡ Some it.0.0) cs ds same h.placed;
+      due = all_seen (λ it. it.1 ≡ due_at it.0.1) cs ds same h.due;
+      own = all_seen (λ it. IsOwn (row_at rows it.0.0) it.0.1) cs ds same h.own;
+      once = subst (IsDistinct nat_eq) (sym numbers) h.once;
+      within = λ n t. h.within n (ap (list_any (nat_eq n)) (sym numbers) ∙ t);
+      all = λ n t f. h.all n t (ap (list_any (nat_eq n)) (sym numbers) ∙ f);
+    }
+
 -- ---- what is due alike
 
 due_alike_too : (t : Held) (ins : AdjIns) (c d : ℕ) (speech : Speech) (it : Seen) → HaveSameExports t c d → IsDueAlike t ins c speech it → IsDueAlike t ins d speech it

@@ -1,6 +1,7 @@
 -- News that fill a block, made one after the other, and of a client whose rows are all free.
-use Rattle.std.proofs.Common.{◌≡◌, ◌<◌, ◌≤◌, ◌+◌, ◌-◌, ℕ, zero, suc, Option, Some, None, List, [], ◌∷◌, ◌++◌, get_or, length, map, take, slice_set, refl, ap, ◌∙◌, arith}
-use Rattle.std.specs.Prelude.{count_by, is_some, replicate, slice_get}
+use Rattle.std.proofs.Common.{◌≡◌, ◌<◌, ◌≤◌, ◌+◌, ◌-◌, ℕ, zero, suc, Option, Some, None, List, [], ◌∷◌, ◌++◌, get_or, length, map, take, slice_set, true, false, refl, ap, ◌∙◌, subst, arith}
+use Rattle.std.specs.Prelude.{count_by, is_some, nat_eq, replicate, slice_get}
+use Rattle.std.proofs.lemmas.Bool.Decides.{nat_tests}
 use Rattle.std.proofs.lemmas.List.{length-take-le}
 use Rattle.std.proofs.lemmas.List.Sums.{sum_by-cons}
 use Rattle.rs_rows.specs.Rows.{Row, row_at}
@@ -13,6 +14,14 @@ use Rattle.rs_outlet.proofs.Pending.Withdrawals.{one_if}
 
 abbrev pub AreSo : (ℕ → News → Type 0) → List News → ℕ → Type 0
 AreSo P ns k = (j : ℕ) → j < k → (n : News) → slice_get ns j ≡ Some n → P j n
+
+-- and of the next one
+pub one_further : (P : ℕ → Type 0) (i : ℕ) → ((j : ℕ) → j < i → P j) → P i → (j : ℕ) → j < i + 1 → P j
+one_further P i all next j less =
+    elim (nat_eq j i) as (λ b. nat_eq j i ≡ b → P j) [
+      | true ↦ λ t. subst P (let e : i ≡ j = grind (arith, nat_tests, t) in e) next
+      | false ↦ λ f. all j (let g : j < i = grind (arith, nat_tests, f, less) in g)
+    ] refl
 
 rows_alike : (rows : List (Option Row)) (ns : List News) → length rows ≡ length ns → AreSo (λ j n. row_at rows j ≡ row_of n) ns (length ns) → rows ≡ map row_of ns
 rows_alike [] [] same so = refl

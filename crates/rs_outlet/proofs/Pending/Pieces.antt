@@ -1,21 +1,25 @@
 -- Pieces: news at all numbers of a block, one after the other, and what pieces have in all.
-use Rattle.std.proofs.Common.{◌≡◌, ◌<◌, ◌≤◌, ◌+◌, ◌-◌, ◌*◌, ℕ, zero, suc, Bool, true, false, ◌||◌, Option, None, List, [], ◌∷◌, ◌++◌, get_or, length, map, slice_set, refl, sym, ap, ◌∙◌, subst, arith}
-use Rattle.std.specs.Prelude.{nat_eq, replicate, take}
+use Rattle.std.proofs.Common.{◌≡◌, ◌<◌, ◌≤◌, ◌+◌, ◌-◌, ◌*◌, ℕ, zero, suc, Bool, true, false, ◌||◌, Option, None, Some, List, [], ◌∷◌, ◌++◌, get_or, length, map, slice_set, refl, sym, ap, ◌∙◌, subst, arith}
+use Rattle.std.specs.Prelude.{nat_eq, replicate, slice_get, take}
+use Rattle.std.specs.Map.{keys_of}
+use Rattle.std.specs.Ptr.{null_ptr}
+use Rattle.rs_octets.specs.Prefixes.{Prefix}
+use Rattle.rs_outlet.specs.declared.waiting.Wait.{Wait}
 use mathlib.Core.Bool.{true≢false}
 use Rattle.std.specs.Arc.{arc_value}
 use Rattle.std.specs.List.{AllByRecursion, IsDistinct, list_any}
 use Rattle.std.proofs.lemmas.Bool.Decides.{nat_tests}
-use Rattle.std.proofs.lemmas.List.{append_assoc, append-nil, length-map, map-append}
+use Rattle.std.proofs.lemmas.List.{append_assoc, append-nil, length-append, length-map, length-take-le, map-append, take_all}
 use Rattle.std.proofs.lemmas.Map.Keys.{IsDistinct-head, IsDistinct-tail}
 use Rattle.rs_rows.specs.Rows.{IsPrepared, Listed, Row, row_at, written_from}
-use Rattle.rs_outlet.specs.declared.filled.Filled.{Filled}
+use Rattle.rs_outlet.specs.declared.filled.Whole.{Whole}
 use Rattle.rs_outlet.specs.declared.news.News.{News}
 use Rattle.rs_outlet.specs.declared.pieces.Piece.{Piece}
 use Rattle.rs_outlet.specs.declared.pieces.Piece.TheVariants as piece
 use Rattle.rs_outlet.specs.declared.plan.Plan.{Plan}
 use Rattle.rs_outlet.specs.declared.plan.Plan.TheVariants as plan
-use Rattle.rs_outlet.specs.Decided.News.{AreFree, AreFrom, change_of, row_of, written}
-use Rattle.rs_outlet.specs.Decided.Plans.{HasRows, IsFor, IsOutside, changes_in, news_in, news_of}
+use Rattle.rs_outlet.specs.Decided.News.{AreFree, AreFrom, HaveRoutes, change_of, news_from, row_of, seen, slot_of, written}
+use Rattle.rs_outlet.specs.Decided.Plans.{HasRows, IsFor, IsOutside, changes_in, news_in, news_of, news_within}
 use Rattle.rs_outlet.specs.Inside.{AreBelow, numbers_of}
 use Rattle.rs_outlet.proofs.Pending.News.{HaveARow, written_apart}
 
@@ -84,8 +88,83 @@ one_more ns i n below count =
     ∙ block_set (16 - (i + 1)) (map row_of ns) (row_of n)
     ∙ ap (λ xs. xs ++ replicate (16 - (i + 1)) None) (sym (map-append row_of ns (n ∷ [])))
 
-pub sixteen : (f : Filled) → length f.news.items ≡ 16
-sixteen f = sym (length-map f.news.items row_of) ∙ sym (ap length f.rows) ∙ (let b = arc_value f.block in b.full)
+-- ---- the news that the rows of a block are
+
+pub rise_from : (k : ℕ) (rows : List (Option Row)) → Rise k (news_from k rows)
+rise_from k [] = tt
+rise_from k (None ∷ rows) = tt
+rise_from k (Some r ∷ rows) = (refl, rise_from (suc k) rows)
+
+count_from : (k : ℕ) (rows : List (Option Row)) → HaveRoutes rows → length (news_from k rows) ≡ length rows
+count_from k [] full = refl
+count_from k (None ∷ rows) full = absurd (true≢false (sym full.0))
+count_from k (Some r ∷ rows) full = ap suc (count_from (suc k) rows full.1)
+
+pub rows_from : (k : ℕ) (rows : List (Option Row)) → HaveRoutes rows → rows ≡ map row_of (news_from k rows)
+rows_from k [] full = refl
+rows_from k (None ∷ rows) full = absurd (true≢false (sym full.0))
+rows_from k (Some r ∷ rows) full = ap (λ xs. Some r ∷ xs) (rows_from (suc k) rows full.1)
+
+pub full_rows : (ns : List News) → HaveRoutes (map row_of ns)
+full_rows [] = tt
+full_rows (n ∷ ns) = (refl, full_rows ns)
+
+pub seen_from : (k : ℕ) (ns : List News) → Rise k ns → map seen (map change_of (news_from k (map row_of ns))) ≡ map seen (map change_of ns)
+seen_from k [] are = refl
+seen_from k (n ∷ ns) are = λ j. ((sym are.0 j, n.prefix), Some (arc_value n.attrs)) ∷ seen_from (suc k) ns are.1 j
+
+-- the row of news at an index, and their number
+pub row_from : (k : ℕ) (rows : List (Option Row)) (i : ℕ) (n : News) → slice_get (news_from k rows) i ≡ Some n → (row_at rows i ≡ row_of n) × (n.number ≡ k + i)
+row_from k [] i n is = absurd (let f : None ≡ Some n = is in (cc))
+row_from k (None ∷ rows) i n is = absurd (let f : None ≡ Some n = is in (cc))
+row_from k (Some r ∷ rows) zero n is =
+    let same : record { number = k; prefix = r.prefix; attrs = record { ptr = null_ptr; value = r.attributes } } ≡ n = cc is in
+    (ap row_of same, (let e : k ≡ n.number = ap (λ (m : News). m.number) same in omega (arith, e)))
+row_from k (Some r ∷ rows) (suc i) n is = let rest = row_from (suc k) rows i n is in (rest.0, omega (arith, rest.1))
+
+-- one slot more
+slots_next : (ns : List News) (i : ℕ) (front was now : List Wait) → i < length ns → was ≡ front ++ map slot_of (take i ns) → ((n : News) → slice_get ns i ≡ Some n → now ≡ was ++ slot_of n ∷ []) → now ≡ front ++ map slot_of (take (suc i) ns)
+slots_next [] i front was now below is next = absurd (omega (arith, below))
+slots_next (n ∷ ns) zero front was now below is next = next n refl ∙ ap (λ ws. ws ++ slot_of n ∷ []) is ∙ append_assoc front [] (slot_of n ∷ [])
+slots_next (n ∷ ns) (suc i) front was now below is next =
+    slots_next ns i (front ++ slot_of n ∷ []) was now (omega (arith, below)) (is ∙ sym (append_assoc front (slot_of n ∷ []) (map slot_of (take i ns)))) next
+    ∙ append_assoc front (slot_of n ∷ []) (map slot_of (take (suc i) ns))
+
+pub slots_more : (ns : List News) (i : ℕ) (front was now : List Wait) → i < length ns → was ≡ front ++ map slot_of (take i ns) → ((n : News) → slice_get ns i ≡ Some n → now ≡ was ++ slot_of n ∷ []) → now ≡ front ++ map slot_of (take (i + 1) ns)
+slots_more ns i front was now below is next = slots_next ns i front was now below is next ∙ ap (λ k. front ++ map slot_of (take k ns)) (let e : suc i ≡ i + 1 = omega arith in e)
+
+pub slots_many : (ns : List News) (i : ℕ) (front was : List Wait) → i ≤ length ns → was ≡ front ++ map slot_of (take i ns) → length was ≡ length front + i
+slots_many ns i front was within is = ap length is ∙ length-append front (map slot_of (take i ns)) ∙ ap (λ k. length front + k) (length-map (take i ns) slot_of ∙ length-take-le i ns within)
+
+pub slots_all : (ns : List News) (i : ℕ) (front was : List Wait) → length ns ≤ i → was ≡ front ++ map slot_of (take i ns) → was ≡ front ++ map slot_of ns
+slots_all ns i front was over is = is ∙ ap (λ ms. front ++ map slot_of ms) (take_all i ns (grind (arith, nat_tests, over)))
+
+-- what is so of each of their numbers
+pub all_rise : (Q : ℕ → Type 0) (k : ℕ) (ns : List News) → Rise k ns → ((j : ℕ) → j < length ns → Q (k + j)) → AllByRecursion (λ (n : News). Q n.number) ns
+all_rise Q k [] are so = tt
+all_rise Q k (n ∷ ns) are so = (
+  subst Q (let e : k + 0 ≡ n.number = (let is = are.0 in omega (arith, is)) in e) (so 0 (omega arith)),
+  all_rise Q (suc k) ns are.1 (λ j less. subst Q (let e : k + suc j ≡ suc k + j = omega arith in e) (so (suc j) (omega (arith, less)))),
+)
+
+pub all_numbers : (Q : ℕ → Type 0) (ns : List News) → AllByRecursion (λ (n : News). Q n.number) ns → AllByRecursion Q (numbers_of (map change_of ns))
+all_numbers Q [] all = tt
+all_numbers Q (n ∷ ns) all = (all.0, all_numbers Q ns all.1)
+
+-- what is listed at their numbers
+pub keys_rise : (k : ℕ) (ns : List News) (ts : List (ℕ × Prefix)) → Rise k ns → length ns ≤ length ts → ((j : ℕ) → j < length ns → (t : ℕ × Prefix) → slice_get ts j ≡ Some t → t.0 ≡ k + j) → keys_of (take (length ns) ts) ≡ numbers_of (map change_of ns)
+keys_rise k [] ts are many so = refl
+keys_rise k (n ∷ ns) [] are many so = absurd (omega (arith, many))
+keys_rise k (n ∷ ns) (t ∷ ts) are many so =
+    let first = so 0 (omega arith) t refl in
+    let e : t.0 ≡ n.number = (let is = are.0 in omega (arith, first, is)) in
+    λ i. e i ∷ keys_rise (suc k) ns ts are.1 (omega (arith, many)) (λ j less u at. let x = so (suc j) (omega (arith, less)) u at in omega (arith, x)) i
+
+pub rise_within : (w : Whole) → Rise (w.place * 16) (news_within w)
+rise_within w = rise_from (w.place * 16) (arc_value w.block).rows.items
+
+pub sixteen : (w : Whole) → length (news_within w) ≡ 16
+sixteen w = count_from (w.place * 16) (arc_value w.block).rows.items w.full ∙ (let b = arc_value w.block in b.full)
 
 -- ---- pieces
 
@@ -102,8 +181,8 @@ below_rest [] ms most below = below
 below_rest (n ∷ ns) ms most below = below_rest ns ms most below.1
 
 -- a block whose news have numbers below one has its rows below it
-pub block_below : (f : Filled) (most : ℕ) → AreBelow (map change_of f.news.items) most → f.place * 16 + 15 < most
-block_below f most below = some_last (f.place * 16) most f.news.items (sixteen f) (rise (f.place * 16) f.news.items f.numbers) below
+pub block_below : (w : Whole) (most : ℕ) → AreBelow (map change_of (news_within w)) most → w.place * 16 + 15 < most
+block_below w most below = some_last (w.place * 16) most (news_within w) (sixteen w) (rise_within w) below
 
 pub free_front : (ns ms : List News) (rows : List (Option Row)) → AreFree rows (ns ++ ms) → AreFree rows ns
 free_front [] ms rows free = tt
@@ -173,8 +252,7 @@ free_after ns (m ∷ ms) rows apart free = (written_apart ns rows m.number apart
 is_outside : (x : Piece) (m : ℕ) → list_any (nat_eq m) (numbers (news_of x)) ≡ false → IsOutside x m
 is_outside (piece.One n) m apart = tt
 is_outside (piece.Block w) m apart = λ e.
-    let f = arc_value w.filled in
-    true≢false (sym (from_any (f.place * 16) m f.news.items (rise (f.place * 16) f.news.items f.numbers) (omega (arith, e)) (omega (arith, e, sixteen f))) ∙ apart)
+    true≢false (sym (from_any (w.place * 16) m (news_within w) (rise_within w) (omega (arith, e)) (omega (arith, e, sixteen w))) ∙ apart)
 
 apart_front : (ns ms os : List News) → AreApart ns (ms ++ os) → AreApart ns ms
 apart_front ns [] os apart = tt
@@ -201,7 +279,7 @@ rows_both rows (n ∷ ns) ms h k = (h.0, rows_both rows ns ms h.1 k)
 
 rows_for : (rows : Listed) (p : Piece) → HasRows rows p → HaveARow rows.items (news_of p)
 rows_for rows (piece.One n) has = (has.0, tt)
-rows_for rows (piece.Block w) has = let f = arc_value w.filled in from_below (f.place * 16) f.news.items rows.items (rise (f.place * 16) f.news.items f.numbers) (omega (arith, has, sixteen f))
+rows_for rows (piece.Block w) has = from_below (w.place * 16) (news_within w) rows.items (rise_within w) (omega (arith, has, sixteen w))
 
 pub have_rows : (rows : Listed) (ps : List Piece) → AllByRecursion (HasRows rows) ps → HaveARow rows.items (news_in ps)
 have_rows rows [] has = tt

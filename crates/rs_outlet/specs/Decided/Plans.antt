@@ -14,12 +14,12 @@ use Rattle.rs_outlet.specs.declared.pieces.Piece.TheVariants as piece
 use Rattle.rs_outlet.specs.declared.plan.Plan.{Plan}
 use Rattle.rs_outlet.specs.declared.plan.Plan.TheVariants as plan
 use Rattle.rs_outlet.specs.Inside.{AreDecided, HaveRows}
-use Rattle.rs_outlet.specs.Decided.News.{AreFree, change_of}
+use Rattle.rs_outlet.specs.Decided.News.{AreFree, change_of, news_from}
 
 -- ---- pieces
 
 abbrev pub news_within : Whole → List News
-news_within w = (arc_value w.filled).news.items
+news_within w = news_from (w.place * 16) (arc_value w.block).rows.items
 
 abbrev pub news_of : Piece → List News
 news_of (piece.One n) = n ∷ []
@@ -32,12 +32,12 @@ news_in (p ∷ ps) = news_of p ++ news_in ps
 -- there is a row for each of a piece, which can be written, or is written with its block
 abbrev pub HasRows : Listed → Piece → Type 0
 HasRows rows (piece.One n) = (n.number < length rows.items) × IsPrepared rows.prepared n.number
-HasRows rows (piece.Block w) = (arc_value w.filled).place * 16 + 15 < length rows.items
+HasRows rows (piece.Block w) = w.place * 16 + 15 < length rows.items
 
 -- a number is of none of the rows that are written with a block
 abbrev pub IsOutside : Piece → ℕ → Type 0
 IsOutside (piece.One n) m = Unit {0}
-IsOutside (piece.Block w) m = m / 16 ≢ (arc_value w.filled).place
+IsOutside (piece.Block w) m = m / 16 ≢ w.place
 
 -- ---- plans
 

@@ -1,5 +1,4 @@
 use Rattle.std.proofs.Common.{length, map, subst, sym}
-use Rattle.std.specs.Arc.{arc_value}
 use Rattle.rs_outlet.specs.declared.pieces.Piece.{Piece}
 use Rattle.rs_outlet.specs.Decided.News.{change_of}
 use Rattle.rs_outlet.specs.Decided.Plans.{HasRows, news_of}
@@ -11,4 +10,4 @@ pub returns-in-Block-clause-prepared : goal.returns-in-Block-clause-prepared
 returns-in-Block-clause-prepared c =
     let most = length c.args.rows.now.rows.items in
     subst (HasRows c.args.rows.now.rows) (sym c.in-Block.is)
-    (block_below (arc_value c.in-Block.field-0.filled) most (subst (λ (p : Piece). AreBelow (map change_of (news_of p)) most) c.in-Block.is c.requires))
+    (block_below c.in-Block.field-0 most (subst (λ (p : Piece). AreBelow (map change_of (news_of p)) most) c.in-Block.is c.requires))

@@ -1,4 +1,4 @@
-use Rattle.std.proofs.Common.{◌∙◌, ℕ, [], ◌∷◌, get_or, length, map, take, ap, sym, subst}
+use Rattle.std.proofs.Common.{◌∙◌, ℕ, [], ◌∷◌, get_or, length, map, take, ap, sym, subst, arith}
 use Rattle.std.specs.Map.{keys_of}
 use Rattle.std.proofs.lemmas.List.{map-append}
 use Rattle.rs_octets.specs.Prefixes.{Prefix}
@@ -11,13 +11,16 @@ use Rattle.rs_outlet.specs.Decided.Precedents.{AreDecidedAt, AreNewsAt}
 use Rattle.rs_outlet.specs.Inside.{row_at}
 use Rattle.rs_outlet.proofs.Answered.{if_some_at}
 use Rattle.rs_outlet.proofs.Decided.Precedents.{keys_one, none_here, one_here, still_known}
-use Rattle.rs_outlet.proofs.Pending.Pieces.{free_join, news_push}
+use Rattle.rs_outlet.proofs.Pending.Pieces.{free_join, news_push, sixteen}
 use Rattle.rs_outlet.proofs.serving.list_first.Goals as goal
 
 pub news_at-requires-clause-known : goal.news_at-requires-clause-known
 news_at-requires-clause-known c =
     let s = c.args.sources.now in
     still_known (held_by s) s.ins.now s.client c.args.speech c.args.known.now _ c.whole_at.ensures.rest c.requires.known
+
+pub returns-in-Some-clause-some : goal.returns-in-Some-clause-some
+returns-in-Some-clause-some c = omega (arith, c.len-count.ensures, sixteen c.in-Some.whole)
 
 pub returns-in-Some-clause-free : goal.returns-in-Some-clause-free
 returns-in-Some-clause-free c = λ free.

@@ -1,13 +1,14 @@
 use Rattle.std.proofs.Common.{◌≤◌, ◌+◌, ◌∙◌, ◌++◌, nat_lt, map, arith, refl, ap, sym, subst}
 use Rattle.std.proofs.lemmas.Bool.Decides.{nat_tests}
-use Rattle.std.proofs.lemmas.List.{append-nil, map-append}
+use Rattle.std.proofs.lemmas.List.{append-nil}
 use Rattle.rs_outlet.specs.Decided.Due.{any_holds, due_to}
 use Rattle.rs_outlet.specs.Decided.HeldBy.{held_by}
-use Rattle.rs_outlet.specs.Decided.News.{change_of}
+use Rattle.rs_outlet.specs.Decided.News.{seen}
 use Rattle.rs_outlet.specs.Decided.Plans.{changes_in, news_in}
 use Rattle.rs_outlet.specs.Inside.{AreDecided}
 use Rattle.rs_outlet.proofs.Decided.Counting.{all_counted, none_counted}
 use Rattle.rs_outlet.proofs.Decided.Decisions.{all_decided, none_decided}
+use Rattle.rs_outlet.proofs.Decided.Precedents.{decided_seen}
 use Rattle.rs_outlet.proofs.Pending.Filling.{all_free}
 use Rattle.rs_outlet.proofs.turn.decide_news.Goals as goal
 
@@ -37,13 +38,10 @@ loop-from-preserved c =
     let decided =
     c.in_ok-decide_numbers.ensures.changes (changes_in ps)
     (subst (AreDecided s.ins.now due_at rows (λ m. nat_lt m from)) (sym empty) inv.changes) in
-    let listed =
-    ap (map change_of) c.in_ok-list_news.ensures
-    ∙ map-append change_of (news_in ps) c.in_ok-all_news.field-0.items
-    ∙ ap (λ cs. changes_in ps ++ cs) c.in_ok-all_news.ensures in
+    let listed = c.in_ok-list_news.ensures ∙ ap (λ cs. map seen (changes_in ps ++ cs)) c.in_ok-all_news.ensures in
     record {
       within = omega (arith, c.min.ensures, inv.within, c.loop-from-test.true);
-      changes = subst (AreDecided s.ins.now due_at rows (λ m. nat_lt m end)) (sym listed) decided;
+      changes = decided_seen s.ins.now due_at rows (λ m. nat_lt m end) _ _ listed decided;
       choices = c.in_ok-decide_numbers.ensures.choices;
       memo = c.in_ok-decide_numbers.ensures.memo;
       most = c.in_ok-decide_numbers.ensures.most;
