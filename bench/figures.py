@@ -75,6 +75,9 @@ COLUMNS = (
     ("back s", lambda it: value(it, "flap", "reannounced_s")),
     ("late s", lambda it: value(it, "late", "full_s")),
     ("CPU in all s", lambda it: value(it, "whole", "server_cpu_s")),
+    ("held MB", lambda it: value(it, "initial", "server_rss_mb")),
+    ("behind flap MB", lambda it: value(it, "flap", "server_rss_mb")),
+    ("behind late MB", lambda it: value(it, "late", "server_rss_mb")),
 )
 
 
@@ -121,6 +124,6 @@ def read(text):
         about.append((name, words))
     rows = []
     for it in csv.DictReader(lines):
-        own = {name: it[name] for name, _ in COLUMNS if it[name]}
+        own = {name: it[name] for name, _ in COLUMNS if it.get(name)}
         rows.append(Row(it["Work"], it["Server"], own, it["wrong"], float(it["load"]), it["faults"]))
     return about, rows

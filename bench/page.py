@@ -44,7 +44,7 @@ connection, comes back and announces again); and a late client without routes.
 
 - **converged**: from the first UPDATE sent until the last client holds exactly its table; `-`: it never did.
 - **CPU**, **CPU in all**: processor seconds of the server and its descendants until then, and over the run.
-- **peak MB**: VmHWM of all processes, shared pages counted twice. **octets/route**: the same by routes due to all clients together. **us/route**: CPU by routes told.
+- **peak MB**: VmHWM of all processes, shared pages counted twice; **held MB**, **behind flap MB**, **behind late MB**: VmRSS once nothing came for 1.5 seconds behind the start, the flap and the late client. **octets/route**: the same by routes due to all clients together. **us/route**: CPU by routes told.
 - **wrong**: what clients hold, against the best of the others' routes (RFC 4271, 9.1.2.2; RFC 7947, 2.3.2): missing, not due, not the best, altered (but for the order of attributes and the form of their lengths), or sent back to their sender, whose router drops them for its own AS.
 - **one**, **gone**: until the last client has a single announcement, or withdrawal: the middle (p50) and the 99th of a hundred.
 - **flap gone**, **back**: from the drop until nobody has its routes, from its first UPDATE after the return until all have. **late**: from Established until the late client has all.
@@ -76,9 +76,9 @@ def judged(rows):
     return next((it for it in JUDGED if any(it == row.work and row.is_played for row in rows)), None)
 
 
-def goal(rows, words, phase, ours, other, column, bound):
-    """A goal of two figures in a column, each of a work and a server."""
-    one, two = least(rows, *ours, column), least(rows, *other, column)
+def goal(rows, words, phase, ours, other, column, bound, before=None):
+    """A goal of two figures in a column, each of a work and a server; or of two columns, the other one that of `before`."""
+    one, two = least(rows, *ours, column), least(rows, *other, before or column)
     return Goal(words, ours[0], phase, one, two, None if one is None or two is None else one <= bound * two)
 
 
@@ -96,6 +96,10 @@ def goals(rows):
     )
     for words, other, bound, phase, column in wanted if work else ():
         found.append(goal(rows, words, phase, (work, "ours"), (work, other), column, bound))
+    for words, phase in (("a flap", "flap"), ("a late client", "late")):
+        if work and least(rows, work, "ours", "held MB"):
+            words = f"memory behind {words} at most 1.1 of that before"
+            found.append(goal(rows, words, phase, (work, "ours"), (work, "ours"), f"behind {phase} MB", 1.1, "held MB"))
     for one, without in with_rules(rows):
         words = RULES_WORDS[one.partition(" ")[0]]
         found.append(goal(rows, f"with {words}: processor time at most 1.3 of that without", "initial", (one, "ours"), (without, "ours"), "CPU s", 1.3))
