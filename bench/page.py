@@ -96,10 +96,10 @@ def goals(rows):
     )
     for words, other, bound, phase, column in wanted if work else ():
         found.append(goal(rows, words, phase, (work, "ours"), (work, other), column, bound))
-    for words, phase in (("a flap", "flap"), ("a late client", "late")):
-        if work and least(rows, work, "ours", "held MB"):
-            words = f"memory behind {words} at most 1.1 of that before"
-            found.append(goal(rows, words, phase, (work, "ours"), (work, "ours"), f"behind {phase} MB", 1.1, "held MB"))
+    has_held = work and least(rows, work, "ours", "held MB")
+    for change, phase in (("a flap", "flap"), ("a late client", "late")) if has_held else ():
+        words = f"memory behind {change} at most 1.1 of that before"
+        found.append(goal(rows, words, phase, (work, "ours"), (work, "ours"), f"behind {phase} MB", 1.1, "held MB"))
     for one, without in with_rules(rows):
         words = RULES_WORDS[one.partition(" ")[0]]
         found.append(goal(rows, f"with {words}: processor time at most 1.3 of that without", "initial", (one, "ours"), (without, "ours"), "CPU s", 1.3))
