@@ -162,8 +162,10 @@ impl Handover {
         ensures decided { IfOk result (IsPlanned sources.now.ins.now (due_to (held_by sources.now) sources.now.client speech) rows.now.rows.items (is_numbered_in touched.now) idle) }
         ensures handover { IsHandover (held_by sources.now) sources.now.ins.now self.new }
     {
+        let may_be_news = rows.count_at(touched) == 0;
         let mut learned = self.room_to_learn(alloc, sources, touched.len());
-        if learned.is_none()
+        if may_be_news
+            && learned.is_none()
             && let Some(plan) = self.shared_plan(alloc, sources, speech, rows, touched, idle)?
         {
             return Ok(plan);
@@ -180,6 +182,7 @@ impl Handover {
             &mut self.choices,
         )?;
         if self.keep(alloc, sources, speech, rows, touched.len(), learned)
+            && may_be_news
             && let Some(plan) = self.shared_plan(alloc, sources, speech, rows, touched, idle)?
         {
             return Ok(plan);

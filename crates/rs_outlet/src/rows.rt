@@ -76,6 +76,17 @@ impl Rows {
         self.rows.attrs(number as usize)
     }
 
+    /// How many of these numbers have a route in their rows. No row that is read here waits for another, so that many are
+    /// fetched at once where they lie far apart in memory: what reads them next finds them near.
+    #[inline(never)]
+    pub(crate) fn count_at(&self, numbers: &[(u32, Prefix)]) -> usize {
+        let mut count = 0usize;
+        for (number, _) in numbers {
+            count = count.saturating_add(usize::from(self.get(*number).is_some()));
+        }
+        count
+    }
+
     /// There is a row for each of the first numbers. It is refused where 32 bits don't count them.
     pub(crate) fn grow(&mut self, count: usize) -> Result<(), AllocError>
         ensures rows { (n : ℕ) → row_at self.new.rows.items n ≡ row_at self.old.rows.items n }

@@ -60,7 +60,7 @@ fn is_due(row: Option<&Lent<'_>>, due: Option<&Passed<'_>>) -> bool
 {
     match (row, due) {
         (None, None) => true,
-        (Some(row), Some(due)) => row.attrs == due.attrs(),
+        (Some(row), Some(due)) => row.has(due.attrs()),
         _ => false,
     }
 }

@@ -49,6 +49,17 @@ impl Model for Place {
 pub struct Lent<'a> {
     pub prefix: Prefix,
     pub attrs: &'a Arc<Attrs>,
+    /// Half of their hash.
+    hash: u16,
+}
+
+impl Lent<'_> {
+    /// Whether the route has these attributes. Most others are told apart by what lies in the row, without a look at its own.
+    pub fn has(&self, attrs: &Arc<Attrs>) -> bool
+        ensures { IsTrue result → (lent_row self.now).attributes ≡ arc_value attrs.now }
+    {
+        self.hash == half_hash(attrs) && **self.attrs == **attrs
+    }
 }
 
 /// A place is free before a route is put there.
@@ -91,12 +102,13 @@ impl Place {
             Held::Free => None,
             Held::Taken {
                 len,
+                hash,
                 bits,
                 attrs,
-                ..
             } => Some(Lent {
                 prefix: Prefix::new(*bits, *len)?,
                 attrs,
+                hash: *hash,
             }),
         }
     }
