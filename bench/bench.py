@@ -25,9 +25,9 @@ import time
 
 from figures import Row, row, written
 from lists import measured
-from page import RULED, goals, made
+from page import JUDGED, RULED, goals, made
 from ruled import KINDS
-from servers import HOST, PORT, servers
+from servers import FOUR, HOST, PORT, servers
 
 HERE = pathlib.Path(__file__).resolve().parent
 BUILT = HERE.parent / "out" / "rsload"
@@ -66,6 +66,8 @@ FULL = (
 )
 # Those that play a work with rules: BIRD has the same in its language.
 WITH_FILTERS = {"ours", "bird", "bird-tables"}
+# Who plays which works three times, of which the least counts: those that goals compare where ours takes less than a second.
+THRICE = {("overlap", it) for it in ("ours", "bird", "bird-tables")} | {(kind, "ours") for kind in RULED}
 # What takes a server so long that it would take most of the time there is.
 TOO_SLOW = {("gobgp", kind, clients) for kind, clients in (("internet", 50), ("internet", 100), ("internet", 200), ("deaf", 10), ("alike", 10))} | {("gobgp", "internet 10x100k")}
 # How long a server may take to read its configuration.
@@ -154,14 +156,21 @@ def is_too_slow(server, work):
     return bool({(server, work.kind, work.clients), (server, work.name)} & TOO_SLOW)
 
 
+def plays(server, work):
+    """Whether a server is played a work: one with rules where it has the same, and ours with four workers that by which servers are compared."""
+    if server == FOUR:
+        return work.name == JUDGED[0]
+    return work.kind not in RULED or server in WITH_FILTERS
+
+
 def played(works, there, options, folder):
     """Plays the works to the servers: their rows."""
     for work in works:
-        for server in (it for it in there if work.kind not in RULED or it.name in WITH_FILTERS):
+        for server in (it for it in there if plays(it.name, work)):
             if is_too_slow(server.name, work):
                 yield Row(work.name, server.name, {}, "", 0.0, SKIPPED_AS_SLOW)
                 continue
-            for _ in range(options.runs):
+            for _ in range(3 * options.runs if options.full and (work.kind, server.name) in THRICE else options.runs):
                 room, load = pathlib.Path(tempfile.mkdtemp(dir=folder)), os.getloadavg()[0]
                 room.chmod(0o777)
                 report = run(server, work.words, room, 100 if options.full else 50, rules=RULED.get(work.kind))

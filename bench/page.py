@@ -11,6 +11,7 @@ import sys
 
 from figures import least, ratio, read, shown
 from plot import COST, CHANGE, drawing
+from servers import FOUR
 
 # The kinds of works that are played with rules (ruled.py), and `members`, which is the same without.
 RULED = {"members": None, "example": "example", "communities": "communities", "rules": "exchange"}
@@ -50,7 +51,9 @@ connection, comes back and announces again); and a late client without routes.
 - **flap gone**, **back**: from the drop until nobody has its routes, from its first UPDATE after the return until all have. **late**: from Established until the late client has all.
 
 `bird` has one table (a client whose own route is the best is told none), `bird-tables` one for each client (`bench/rsload/src/conf.rs`). Ours is
-started with what its unit sets (`examples/rs_served.service`).
+started with what its unit sets (`examples/rs_served.service`), with one worker; `ours-4` is the same with four.
+
+`overlap` is played three times by ours and BIRD, works with rules and `members` by ours: they take less than a second, of which one run says little.
 
 Times depend on what else runs on the machine: compare rows of one run alone.
 """
@@ -64,6 +67,27 @@ OPENING = (
 )
 # The works by which servers are compared: the greatest of those that were played.
 JUDGED = ("internet 10x100k", "internet 10x10k")
+# What is wanted of the work by which servers are compared: words, which of ours, the other server, the bound, the phase and a column.
+OF_FEW = (
+    ("converged no later than BIRD with one table", "ours", "bird", 1.0, "initial", "converged s"),
+    ("processor time at most 0.35 of BIRD's with one table", "ours", "bird", 0.35, "initial", "CPU s"),
+    ("memory at most 1.5 of BIRD's with one table", "ours", "bird", 1.5, None, "peak MB"),
+    ("memory at most half of BIRD's with tables", "ours", "bird-tables", 0.5, None, "peak MB"),
+    ("a single announcement (p50) no later than BIRD's", "ours", "bird", 1.0, "single", "one p50 ms"),
+    ("a single withdrawal (p50) no later than BIRD's", "ours", "bird", 1.0, "single", "gone p50 ms"),
+    ("a flap gone no later than BIRD's", "ours", "bird", 1.0, "flap", "flap gone s"),
+    ("by four workers a flap gone in half of BIRD's time", FOUR, "bird", 0.5, None, "flap gone s"),
+    ("a flap back in a fifth of BIRD's time", "ours", "bird", 0.2, "flap", "back s"),
+)
+# The same of many members, and of prefixes that several announce, by the works' names.
+MANY = ("internet 100x1k", "internet 200x500")
+OF_MANY = (
+    ("processor time at most 0.25 of BIRD's with one table", "bird", 0.25, "initial", "CPU s"),
+    ("a single announcement (p50) no later than BIRD's", "bird", 1.0, "single", "one p50 ms"),
+    ("a single announcement (p99) no later than BIRD's with tables", "bird-tables", 1.0, "single", "one p99 ms"),
+)
+OVERLAP = ("overlap 10x10k",)
+OF_OVERLAP = (("processor time at most 0.25 of BIRD's with tables", "bird-tables", 0.25, "initial", "CPU s"),)
 # The works and the figures that the page shows; the file beside it has all.
 SHOWN_WORKS = ("internet 10x100k", "alike")
 SHOWN = ("converged s", "CPU s", "peak MB", "one p50 ms", "flap gone s", "back s", "late s")
@@ -82,29 +106,37 @@ def goal(rows, words, phase, ours, other, column, bound, before=None):
     return Goal(words, ours[0], phase, one, two, None if one is None or two is None else one <= bound * two)
 
 
-def goals(rows):
-    """Each goal that these rows have figures for."""
-    found, work = [], judged(rows)
-    wanted = (
-        ("converged no later than BIRD with one table", "bird", 1.0, "initial", "converged s"),
-        ("less processor time than BIRD with one table", "bird", 1.0, "initial", "CPU s"),
-        ("at most half the memory of BIRD with tables", "bird-tables", 0.5, None, "peak MB"),
-        ("a single announcement (p50) no later than BIRD's", "bird", 1.0, "single", "one p50 ms"),
-        ("a single withdrawal (p50) no later than BIRD's", "bird", 1.0, "single", "gone p50 ms"),
-        ("a flap gone no later than BIRD's", "bird", 1.0, "flap", "flap gone s"),
-        ("a flap back no later than BIRD's", "bird", 1.0, "flap", "back s"),
-    )
-    for words, other, bound, phase, column in wanted if work else ():
-        found.append(goal(rows, words, phase, (work, "ours"), (work, other), column, bound))
-    has_held = work and least(rows, work, "ours", "held MB")
-    for change, phase in (("a flap", "flap"), ("a late client", "late")) if has_held else ():
+def beside_bird(rows, work):
+    """The goals of a few members with large tables."""
+    for words, server, other, bound, phase, column in OF_FEW:
+        if least(rows, work, server, column) is not None:
+            yield goal(rows, words, phase, (work, server), (work, other), column, bound)
+    for change, phase in (("a flap", "flap"), ("a late client", "late")) if least(rows, work, "ours", "held MB") else ():
         words = f"memory behind {change} at most 1.1 of that before"
-        found.append(goal(rows, words, phase, (work, "ours"), (work, "ours"), f"behind {phase} MB", 1.1, "held MB"))
+        yield goal(rows, words, phase, (work, "ours"), (work, "ours"), f"behind {phase} MB", 1.1, "held MB")
+
+
+def of_works(rows):
+    """The goals of many members, and of prefixes that several announce."""
+    for works, wanted in ((MANY, OF_MANY), (OVERLAP, OF_OVERLAP)):
+        for work in works:
+            for words, other, bound, phase, column in wanted if least(rows, work, "ours", "CPU s") is not None else ():
+                yield goal(rows, f"`{work}`: {words}", phase, (work, "ours"), (work, other), column, bound)
+
+
+def of_rules(rows):
+    """The goals of works with rules, beside the same without."""
     for one, without in with_rules(rows):
         words = RULES_WORDS[one.partition(" ")[0]]
-        found.append(goal(rows, f"with {words}: processor time at most 1.3 of that without", "initial", (one, "ours"), (without, "ours"), "CPU s", 1.3))
-        found.append(goal(rows, f"with {words}: memory at most 1.2 of that without", None, (one, "ours"), (without, "ours"), "peak MB", 1.2))
-    own = [it for it in rows if it.server == "ours"]
+        yield goal(rows, f"with {words}: processor time at most 1.3 of that without", "initial", (one, "ours"), (without, "ours"), "CPU s", 1.3)
+        yield goal(rows, f"with {words}: memory at most 1.2 of that without", None, (one, "ours"), (without, "ours"), "peak MB", 1.2)
+
+
+def goals(rows):
+    """Each goal that these rows have figures for."""
+    work = judged(rows)
+    found = [*(beside_bird(rows, work) if work else ()), *of_works(rows), *of_rules(rows)]
+    own = [it for it in rows if it.server.startswith("ours")]
     if own:
         found.append(Goal("no route altered, missing or sent back, in any work", None, None, None, None, all(it.wrong == "nothing" for it in own)))
     return found
@@ -179,7 +211,7 @@ def page(about, rows):
     ]
     text += [f"Skipped: {words}." for name, words in about if name == "skipped"]
     if found := goals(rows):
-        text += ["", "## Goals", "", f"Where no rules are named, of `{judged(rows)}`; the least of each server's runs.", ""]
+        text += ["", "## Goals", "", f"Where no work and no rules are named, of `{judged(rows)}`; the least of each server's runs.", ""]
         text += ["| Goal | ours | other | ratio | |", "|---|---:|---:|---:|---|"]
         for it in found:
             state = "met" if it.is_met else "not known" if it.is_met is None else "**missed**"

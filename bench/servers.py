@@ -7,6 +7,8 @@ import re
 import shutil
 import subprocess
 
+# Ours with four workers.
+FOUR = "ours-4"
 HOST, PORT, API = "127.0.0.2", 1790, 1791
 UNIT = pathlib.Path(__file__).resolve().parent.parent / "examples" / "rs_served.service"
 FRR = pathlib.Path("/usr/lib/frr/bgpd")
@@ -57,12 +59,14 @@ def installed(*programs):
 
 
 def servers(program, workers):
-    """Ours first, then the others."""
+    """Ours first, also with four workers, then the others."""
     bird = lambda room: ["bird", "-f", "-c", room / "conf", "-s", room / "ctl"]
     openbgpd = installed("bgpd", "bgpctl") or (None if os.getuid() == 0 else "wants to be started by root")
     gobgp = ["gobgpd", "-t", "toml", "--api-hosts", f"{HOST}:{API}", "--pprof-disable", "-l", "warn"]
     frr = [FRR, "-p", str(PORT), "-l", HOST, "-Z", "-S", "-P", "0"]
-    yield Server("ours", None, lambda room: [*program, "--config", room / "conf", "--workers", str(workers)], lambda: f"{workers} worker{'s' * (workers > 1)}", None, unit_environment())
+    for name, count in (("ours", workers), (FOUR, 4)):
+        words = lambda room, count=count: [*program, "--config", room / "conf", "--workers", str(count)]
+        yield Server(name, None, words, lambda count=count: f"{count} worker{'s' * (count > 1)}", None, unit_environment())
     yield Server("bird", "bird2", bird, lambda: version_of("bird", "--version"), installed("bird"))
     yield Server("bird-tables", "bird2", bird, lambda: version_of("bird", "--version"), installed("bird"))
     yield Server("openbgpd", "openbgpd", lambda room: ["bgpd", "-d", "-f", room / "conf"], lambda: version_of("bgpd", "-V"), openbgpd)
