@@ -5,7 +5,7 @@ bench.py PROGRAM [--full] [--page FILE] [--servers NAME,..] [--works WORD,..] [-
 The load is played by rsload (bench/rsload, Rust, built by cargo without a network). Each server is a process on loopback
 addresses with a configuration that rsload writes. What is not installed is skipped with a word. FILE is made anew by page.py, with a
 profile of ours where a goal was missed; bench.csv beside it has all figures. --full plays all works, also those with rules
-(ruled.py), by BIRD too. --divide plays each work with so many times fewer prefixes, to try it. TEXT says which build PROGRAM is.
+(ruled.py), by BIRD too, and the greatest by ours with four workers. --divide plays each work with so many times fewer prefixes, to try it. TEXT says which build PROGRAM is.
 """
 import argparse
 import collections
@@ -180,24 +180,26 @@ def played(works, there, options, folder):
                 yield seen
 
 
-def profiles(rows, works, server, folder):
-    """Where ours spends its time in each phase of which a goal was missed, if perf is there."""
+def profiles(rows, works, ours, folder):
+    """Where each of ours spends its time in each phase of which a goal was missed, if perf is there."""
     missed = [it for it in goals(rows) if it.is_met is False and it.phase]
-    for name in dict.fromkeys(it.work for it in missed):
+    for name, own in dict.fromkeys((it.work, it.server) for it in missed):
         work = next(it for it in works if it.name == name)
         room = pathlib.Path(tempfile.mkdtemp(dir=folder))
         room.chmod(0o777)
-        seen = profile(server, work.words, room, dict.fromkeys(it.phase for it in missed if it.work == name), RULED.get(work.kind))
-        yield from ((f"profile of {name}, {phase}", words) for phase, words in seen.items())
+        phases = dict.fromkeys(it.phase for it in missed if (it.work, it.server) == (name, own))
+        seen = profile(next(it for it in ours if it.name == own), work.words, room, phases, RULED.get(work.kind))
+        yield from ((f"profile of {name}, {own}, {phase}", words) for phase, words in seen.items())
 
 
-def about(options, wanted, alone):
+def about(options, wanted, rows, alone):
     """What is said of the whole run: names and words."""
     today = datetime.date.today()
     yield "made", f"{today.day} {today:%B %Y}"
     yield "machine", f"{platform.processor() or platform.machine()}, {os.cpu_count()} processors, {platform.system()} {platform.release()}"
     yield "build", options.build
-    yield "servers", ", ".join(f"{it.name} ({it.version()})" for it in wanted if not it.missing)
+    names = {it.server for it in rows}
+    yield "servers", ", ".join(f"{it.name} ({it.version()})" for it in wanted if it.name in names)
     yield from (("skipped", f"{it.name} {it.missing}") for it in wanted if it.missing)
     yield from (("lists alone", it) for it in alone)
 
@@ -232,12 +234,14 @@ def main():
     there = [it for it in wanted if not it.missing]
     all_works = (it._replace(prefixes=it.prefixes // options.divide) for it in (*QUICK, *(FULL if options.full else ())))
     works = [it for it in all_works if any(word in it.name for word in options.works.split(","))]
+    if not works:
+        sys.exit(f"no work has a name with {options.works}")
     with tempfile.TemporaryDirectory(prefix="bench-") as folder:
         os.chmod(folder, 0o755)
         rows = list(played(works, there, options, folder))
-        seen = list(profiles(rows, works, known[0], folder)) if options.page else []
+        seen = list(profiles(rows, works, known, folder)) if options.page else []
     alone = lists_alone(options.program, options.runs) if options.full and not options.works and options.page else []
-    text = written([*about(options, wanted, alone), *seen], rows)
+    text = written([*about(options, wanted, rows, alone), *seen], rows)
     if options.page:
         options.page.with_name("bench.csv").write_text(text)
         made(options.page)

@@ -76,7 +76,7 @@ OF_FEW = (
     ("a single announcement (p50) no later than BIRD's", "ours", "bird", 1.0, "single", "one p50 ms"),
     ("a single withdrawal (p50) no later than BIRD's", "ours", "bird", 1.0, "single", "gone p50 ms"),
     ("a flap gone no later than BIRD's", "ours", "bird", 1.0, "flap", "flap gone s"),
-    ("by four workers a flap gone in half of BIRD's time", FOUR, "bird", 0.5, None, "flap gone s"),
+    ("by four workers a flap gone in half of BIRD's time", FOUR, "bird", 0.5, "flap", "flap gone s"),
     ("a flap back in a fifth of BIRD's time", "ours", "bird", 0.2, "flap", "back s"),
 )
 # The same of many members, and of prefixes that several announce, by the works' names.
@@ -91,8 +91,8 @@ OF_OVERLAP = (("processor time at most 0.25 of BIRD's with tables", "bird-tables
 # The works and the figures that the page shows; the file beside it has all.
 SHOWN_WORKS = ("internet 10x100k", "alike")
 SHOWN = ("converged s", "CPU s", "peak MB", "one p50 ms", "flap gone s", "back s", "late s")
-# A goal: its words, the work and the phase that it is of, our figure, the other one, and whether it is met (None: not known).
-Goal = collections.namedtuple("Goal", "words work phase ours other is_met")
+# A goal: its words, the work, which of ours, and the phase that it is of, our figure, the other one, and whether it is met (None: not known).
+Goal = collections.namedtuple("Goal", "words work server phase ours other is_met")
 
 
 def judged(rows):
@@ -103,7 +103,7 @@ def judged(rows):
 def goal(rows, words, phase, ours, other, column, bound, before=None):
     """A goal of two figures in a column, each of a work and a server; or of two columns, the other one that of `before`."""
     one, two = least(rows, *ours, column), least(rows, *other, before or column)
-    return Goal(words, ours[0], phase, one, two, None if one is None or two is None else one <= bound * two)
+    return Goal(words, *ours, phase, one, two, None if one is None or two is None else one <= bound * two)
 
 
 def beside_bird(rows, work):
@@ -138,7 +138,7 @@ def goals(rows):
     found = [*(beside_bird(rows, work) if work else ()), *of_works(rows), *of_rules(rows)]
     own = [it for it in rows if it.server.startswith("ours")]
     if own:
-        found.append(Goal("no route altered, missing or sent back, in any work", None, None, None, None, all(it.wrong == "nothing" for it in own)))
+        found.append(Goal("no route altered, missing or sent back, in any work", None, None, None, None, None, all(it.wrong == "nothing" for it in own)))
     return found
 
 
